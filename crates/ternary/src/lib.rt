@@ -1,0 +1,75 @@
+// The three-valued gates over the codes 0, 1 and 2 (X): fixed tables for AND, XOR and MUX, and the inverse.
+ghost use mathlib.Core.Path.{_≡_};
+ghost use Prim.Native.Nat.{_<_};
+ghost use Rattle.ternary.specs.Ternary.{not3, and3, xor3, mux3, codeOf, valueOf};
+
+// In AND and XOR the answer for the codes a and b is at 3 * a + b.
+const AND: [u8; 9] = [0, 0, 0, 0, 1, 2, 0, 2, 2];
+
+const XOR: [u8; 9] = [0, 1, 2, 1, 0, 2, 2, 2, 2];
+
+// The answer for the selector s and the codes b and c is at 9 * s + 3 * b + c.
+const MUX: [u8; 27] = [
+    0, // s is 0: c
+    1,
+    2,
+    0,
+    1,
+    2,
+    0,
+    1,
+    2,
+    0, // s is 1: b
+    0,
+    0,
+    1,
+    1,
+    1,
+    2,
+    2,
+    2,
+    2, // s is X: X
+    2,
+    2,
+    2,
+    2,
+    2,
+    2,
+    2,
+    2,
+];
+
+pub fn lookup_and(a: u8, b: u8) -> u8
+    requires { ⌜ (a < 3) × (b < 3) ⌝ }
+    ensures { λ r. ⌜ r ≡ codeOf (and3 (valueOf a) (valueOf b)) ⌝ }
+{
+    let place = (3 * a + b) as usize;
+    AND[place]
+}
+
+pub fn lookup_xor(a: u8, b: u8) -> u8
+    requires { ⌜ (a < 3) × (b < 3) ⌝ }
+    ensures { λ r. ⌜ r ≡ codeOf (xor3 (valueOf a) (valueOf b)) ⌝ }
+{
+    let place = (3 * a + b) as usize;
+    XOR[place]
+}
+
+pub fn lookup_mux(s: u8, b: u8, c: u8) -> u8
+    requires { ⌜ (s < 3) × ((b < 3) × (c < 3)) ⌝ }
+    ensures { λ r. ⌜ r ≡ codeOf (mux3 (valueOf s) (valueOf b) (valueOf c)) ⌝ }
+{
+    let place = (9 * s + 3 * b + c) as usize;
+    MUX[place]
+}
+
+// Every number above 1 is X, and so is its inverse.
+pub fn invert(a: u8) -> u8
+    ensures { λ r. ⌜ r ≡ codeOf (not3 (valueOf a)) ⌝ }
+{
+    match a {
+        0 => 1,
+        1 => 0,
+        _ => 2,
+    }
+}
