@@ -1,0 +1,63 @@
+-- What the questions say of rows, as propositions: literals that name rows in range, phases, resets, and names that are unique.
+-- Assumes nothing.
+use Prim.Native.Nat.{ℕ, _<_, _≤_, _/_}
+use mathlib.Core.Path.{_≡_, sym, ap, _∙_}
+use mathlib.Core.Bool.{Bool, true, false}
+use mathlib.Core.List.{List}
+use lib.ListN.{length}
+use Rattle.netlist.specs.Limits.{mostOriginalRows}
+use Rattle.netlist.specs.Rows.{Row, constant, input, register, andGate, xorGate, muxGate, output, rowAt, onRegister, kindOf, labelOf, phaseOf, hasName, isOutput}
+use Rattle.netlist.proofs.RowLaws.{SameName}
+
+-- The operands of a gate, and an output's literal, name rows below j.
+abbrev pub OperandsBelow : ℕ → Row → Type 0
+OperandsBelow j constant = Unit {0}
+OperandsBelow j (input l p) = Unit {0}
+OperandsBelow j (register r n l) = Unit {0}
+OperandsBelow j (andGate a b) = (a / 2 < j) × (b / 2 < j)
+OperandsBelow j (xorGate a b) = (a / 2 < j) × (b / 2 < j)
+OperandsBelow j (muxGate a b c) = (a / 2 < j) × (b / 2 < j) × (c / 2 < j)
+OperandsBelow j (output a l p) = a / 2 < j
+
+abbrev pub Ordered : List Row → Type 0
+Ordered rows = (j : ℕ) → j < length rows → OperandsBelow j (rowAt rows j)
+
+-- A register's next value names a row below m, and its reset is 0, 1 or X.
+abbrev pub NextBelow : ℕ → Row → Type 0
+NextBelow m = onRegister (Unit {0}) (λ r n l. n / 2 < m)
+
+abbrev pub ResetIn : Row → Type 0
+ResetIn = onRegister (Unit {0}) (λ r n l. r ≤ 2)
+
+-- The literal names a row that is no output.
+abbrev pub NamesNode : List Row → ℕ → Type 0
+NamesNode rows l = (l / 2 < length rows) × (isOutput (rowAt rows (l / 2)) ≡ false)
+
+-- P holds of a gate's operands, and Q of a register's next value and an output's literal.
+abbrev pub OnLiterals : (ℕ → Type 0) → (ℕ → Type 0) → Row → Type 0
+OnLiterals P Q constant = Unit {0}
+OnLiterals P Q (input l p) = Unit {0}
+OnLiterals P Q (register r n l) = Q n
+OnLiterals P Q (andGate a b) = P a × P b
+OnLiterals P Q (xorGate a b) = P a × P b
+OnLiterals P Q (muxGate a b c) = (P a × P b) × P c
+OnLiterals P Q (output a l p) = Q a
+
+-- A netlist that Fold accepts, as far as its values go.
+pub record WellFormed (rows : List Row) : Type 0 where
+  pub ordered : Ordered rows
+  pub nexts : (x : ℕ) → x < length rows → NextBelow (length rows) (rowAt rows x)
+  pub phases : (x : ℕ) → x < length rows → phaseOf (rowAt rows x) ≡ 0
+
+-- Two rows of one kind, label and phase are one row.
+abbrev pub NamesUnique : List Row → Type 0
+NamesUnique rows = (x y : ℕ) → x < length rows → y < length rows → hasName (rowAt rows x) ≡ true → SameName (rowAt rows x) (rowAt rows y) → x ≡ y
+
+-- What questions 6 to 13 say of the rows.
+pub record AcceptedRows (rows : List Row) : Type 0 where
+  pub formed : WellFormed rows
+  pub small : length rows ≤ mostOriginalRows
+  pub constant-first : rowAt rows 0 ≡ constant
+  pub resets : (x : ℕ) → x < length rows → ResetIn (rowAt rows x)
+  pub has-output : (x a l p : ℕ) × (x < length rows) × (rowAt rows x ≡ output a l p)
+  pub unique : NamesUnique rows
