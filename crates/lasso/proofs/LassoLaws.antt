@@ -1,0 +1,141 @@
+-- The lasso in the paper's words: it is the first repeat, compared from state 0 up; there is no other; there is none exactly if states 0 to 256 all differ. From the stem on the states repeat with the cycle.
+-- Assumes nothing.
+use Prim.Native.Nat.{ℕ, zero, suc, _+_, _-_, _<_, _≤_}
+use mathlib.Core.Path.{_≡_, refl, sym, ap, _∙_, subst}
+use mathlib.Core.Logic.{_≢_, _↔_}
+use mathlib.Core.Bool.{Bool, true, false, _&&_, false≢true}
+use mathlib.Core.List.{List, [], _∷_, map}
+use mathlib.Core.Option.{Option, none, some, Option·some-injective}
+use native.Mathlib.Omega.{arith}
+use native.Mathlib.Decide.{decLt}
+use native.Mathlib.Nat.{add-suc, add-zero}
+use borrow.Author.Tests.{ltb-true, ltb-false, leb-true, leb-false, le-leb, lt-ltb, le-ltb}
+use lib.Dec.{ltb, leb}
+use Rattle.memory.specs.Lists.{firstFrom}
+use Rattle.memory.proofs.TestLaws.{and-true, cond-case}
+use Rattle.memory.proofs.ListLaws.{first-is, first-least}
+use Rattle.ternary.specs.Ternary.{Ternary, X, equal3}
+use Rattle.ternary.proofs.RuleLaws.{equal3-true, equal3-same}
+use Rattle.netlist.specs.Limits.{lastState}
+use Rattle.netlist.specs.Rows.{Row}
+use Rattle.netlist.specs.Simulation.{ternaryLogic, valueAt, nextValue, stepValues, runState, ternaryState}
+use Rattle.lasso.specs.LassoSearch.{equalStates, isRepeat, earlierEqual, firstRepeat, Lasso, findLasso, AllDiffer, FirstRepeat}
+
+pub states-equal : (s s′ : List Ternary) → equalStates s s′ ≡ true → s ≡ s′
+states-equal [] [] h = refl
+states-equal [] (b ∷ bs) h = absurd (false≢true h)
+states-equal (a ∷ as′) [] h = absurd (false≢true h)
+states-equal (a ∷ as′) (b ∷ bs) h =
+    let k = and-true (equal3 a b) (equalStates as′ bs) h in
+    cc (equal3-true a b (k .0), states-equal as′ bs (k .1))
+
+pub states-same : (s : List Ternary) → equalStates s s ≡ true
+states-same [] = refl
+states-same (a ∷ s) = rw (equal3-same a) (states-same s)
+
+module _ (rows : List Row) where
+  -- The state found is equal, and one that is equal is not before it.
+  pub earlier-equal : (m : ℕ) → earlierEqual rows m < m → ternaryState rows (earlierEqual rows m) ≡ ternaryState rows m
+  unfolding earlierEqual
+  earlier-equal m h = states-equal _ _ (first-is 0 m (isRepeat rows m) .holds (omega arith))
+
+  pub earlier-least : (m n : ℕ) → ternaryState rows n ≡ ternaryState rows m → earlierEqual rows m ≤ n
+  unfolding earlierEqual
+  earlier-least m n e =
+      first-least 0 m (isRepeat rows m) n (omega arith)
+      (subst (λ (s : List Ternary). equalStates (ternaryState rows n) s ≡ true) e (states-same (ternaryState rows n)))
+
+  pub all-differ : (m : ℕ) → ((j : ℕ) → 1 ≤ j → j < m → j ≤ earlierEqual rows j) → AllDiffer rows m
+  all-differ m h a b l k e = omega (arith, h b (omega arith) k, earlier-least b a e)
+
+  pub differ-earlier : (m : ℕ) → AllDiffer rows m → (j : ℕ) → j < m → j ≤ earlierEqual rows j
+  differ-earlier m d j h = elim (decLt (earlierEqual rows j) j) [
+    | yes k ↦ absurd (d (earlierEqual rows j) j k h (earlier-equal j k))
+    | no k ↦ omega arith
+  ]
+
+  -- The first repeat that is tried for: the states before it differ.
+  pub repeat-differ : AllDiffer rows (firstRepeat rows)
+  unfolding firstRepeat
+  repeat-differ =
+      all-differ (firstRepeat rows) (λ j a b.
+      ltb-false (earlierEqual rows j) j (first-is 1 lastState (λ m. ltb (earlierEqual rows m) m) .before j a b))
+
+  pub repeat-least : (n m : ℕ) → n < m → ternaryState rows m ≡ ternaryState rows n → firstRepeat rows ≤ m
+  unfolding firstRepeat
+  repeat-least n m h e = first-least 1 lastState (λ m. ltb (earlierEqual rows m) m) m (omega arith) (lt-ltb (earlierEqual rows m) m (omega (arith, earlier-least m n (sym e))))
+
+  repeat-earlier : firstRepeat rows ≤ lastState → earlierEqual rows (firstRepeat rows) < firstRepeat rows
+  unfolding firstRepeat
+  repeat-earlier h = ltb-true _ _ (first-is 1 lastState (λ m. ltb (earlierEqual rows m) m) .holds (omega arith))
+
+  -- Question 16: the answer is no exactly if states 0 to 256 all differ.
+  pub lasso-none-iff : (findLasso rows ≡ none) ↔ AllDiffer rows (suc lastState)
+  unfolding findLasso
+  lasso-none-iff =
+      cond-case (λ (o : Option Lasso). (o ≡ none) ↔ AllDiffer rows (suc lastState)) _ _ _
+      (λ q. (
+        λ e. absurd (let w : _≡_ {A = ℕ} 0 1 = cc in omega arith),
+        λ d.
+            let l = repeat-earlier (leb-true (firstRepeat rows) lastState q) in
+            let b = leb-true (firstRepeat rows) lastState q in
+            absurd (d (earlierEqual rows (firstRepeat rows)) (firstRepeat rows) l (omega arith) (earlier-equal (firstRepeat rows) l)),
+      ))
+      (λ q. (λ _ a b l k. repeat-differ a b l (omega (arith, leb-false (firstRepeat rows) lastState q)), λ _. refl))
+
+  -- What a lasso is: a first repeat, at state 256 at the latest.
+  pub record IsLasso (z : Lasso) : Type 0 where
+    pub repeat : FirstRepeat rows (z .stem) (z .stem + z .cycle)
+    pub within : z .stem + z .cycle ≤ lastState
+
+  pub lasso-is : (z : Lasso) → findLasso rows ≡ some z → IsLasso z
+  unfolding findLasso
+  lasso-is z =
+      cond-case (λ (o : Option Lasso). o ≡ some z → IsLasso z) _ _ _
+      (λ q e.
+      let b = leb-true (firstRepeat rows) lastState q in
+      let l = repeat-earlier b in
+      let w : earlierEqual rows (firstRepeat rows) + (firstRepeat rows - earlierEqual rows (firstRepeat rows)) ≡ firstRepeat rows = omega arith in
+      subst IsLasso (Option·some-injective _ _ e)
+      (record {
+        repeat = subst (FirstRepeat rows (earlierEqual rows (firstRepeat rows))) (sym w) (record { earlier = l; equal = sym (earlier-equal (firstRepeat rows) l); first = repeat-differ });
+        within = omega arith;
+      }))
+      (λ q e. absurd (let w : _≡_ {A = ℕ} 0 1 = cc in omega arith))
+
+  -- There is no other first repeat.
+  pub repeat-unique : (n m n′ m′ : ℕ) → FirstRepeat rows n m → FirstRepeat rows n′ m′ → (n ≡ n′) × (m ≡ m′)
+  repeat-unique n m n′ m′ f f′ =
+      let l = f .earlier in
+      let l′ = f′ .earlier in
+      let w : m ≡ m′ = elim (decLt m m′) [
+        | yes k ↦ absurd (f′ .first n m l k (sym (f .equal)))
+        | no k ↦ elim (decLt m′ m) [ yes k′ ↦ absurd (f .first n′ m′ l′ k′ (sym (f′ .equal))) | no k′ ↦ omega arith ]
+      ] in
+      let s : ternaryState rows n ≡ ternaryState rows n′ = sym (f .equal) ∙ ap (ternaryState rows) w ∙ f′ .equal in (
+        elim (decLt n n′) [
+          | yes k ↦ absurd (f .first n n′ k (omega arith) s)
+          | no k ↦ elim (decLt n′ n) [ yes k′ ↦ absurd (f .first n′ n k′ l (sym s)) | no k′ ↦ omega arith ]
+        ],
+        w,
+      )
+
+  pub lasso-unique : (z : Lasso) → findLasso rows ≡ some z → (n m : ℕ) → FirstRepeat rows n m → (z .stem ≡ n) × (z .stem + z .cycle ≡ m)
+  lasso-unique z h n m f = repeat-unique (z .stem) (z .stem + z .cycle) n m (lasso-is z h .repeat) f
+
+  -- A first repeat at state 256 at the latest is found.
+  pub lasso-found : (n m : ℕ) → FirstRepeat rows n m → m ≤ lastState → (z : Lasso) × (findLasso rows ≡ some z)
+  lasso-found n m f h = go (findLasso rows) refl
+    where
+      go : (o : Option Lasso) → findLasso rows ≡ o → (z : Lasso) × (findLasso rows ≡ some z)
+      go none e = absurd (lasso-none-iff .0 e n m (f .earlier) (omega arith) (sym (f .equal)))
+      go (some z) e = (z, e)
+
+  -- The states after the lasso repeat.
+  pub lasso-repeats : (z : Lasso) → IsLasso z → (d : ℕ) → ternaryState rows (z .stem + z .cycle + d) ≡ ternaryState rows (z .stem + d)
+  unfolding runState
+  lasso-repeats z is zero = simp add-zero (is .repeat .equal)
+  lasso-repeats z is (suc d) =
+      ap (ternaryState rows) (add-suc _ d)
+      ∙ ap (λ (s : List Ternary). map (nextValue ternaryLogic (valueAt ternaryLogic (stepValues ternaryLogic rows s (λ l p. X)))) rows) (lasso-repeats z is d)
+      ∙ sym (ap (ternaryState rows) (add-suc _ d))

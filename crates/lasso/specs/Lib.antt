@@ -1,0 +1,4 @@
+-- The lasso of the three-valued run, generators, the phase count and the clock list.
+pub mod LassoSearch
+pub mod Generators
+pub mod ClockEntries
