@@ -1,0 +1,94 @@
+-- What a refusal says: the first no of a list of questions, of a question asked once, and of questions asked of items in turn.
+-- Assumes nothing.
+use Prim.Native.Nat.{ℕ, zero, suc, _<_}
+use mathlib.Core.Path.{_≡_, refl, ap, _∙_}
+use mathlib.Core.Bool.{Bool, true, false, cond, not, false≢true}
+use mathlib.Core.List.{List, [], _∷_}
+use native.Mathlib.Omega.{arith}
+use lib.Dec.{ltb}
+use borrow.Author.Tests.{ltb-true, ltb-false, le-ltb}
+use Rattle.memory.specs.Lists.{firstFrom}
+use Rattle.memory.proofs.ListLaws.{first-is, first-none}
+use Rattle.questions.specs.Questions.{Refusal, noRefusal, firstRefusal, question, itemQuestions}
+
+-- ---- a list of questions: none refuses exactly if no one does
+
+pub list-none : (q : Refusal) (qs : List Refusal) → firstRefusal (q ∷ qs) .number ≡ 0 → (q .number ≡ 0) × (firstRefusal qs .number ≡ 0)
+list-none q qs h = go (q .number) refl h
+  where
+    go : (n : ℕ) → q .number ≡ n → (elim n as (λ _. Refusal) [ zero ↦ firstRefusal qs | suc m ↦ q ]) .number ≡ 0 → (q .number ≡ 0) × (firstRefusal qs .number ≡ 0)
+    go zero e k = (e, k)
+    go (suc m) e k = absurd (omega (arith, e, k))
+
+-- A question that is passed goes on to the next.
+pub list-next : (q : Refusal) (qs : List Refusal) → q .number ≡ 0 → firstRefusal (q ∷ qs) ≡ firstRefusal qs
+list-next q qs e = ap (λ (n : ℕ). elim n as (λ _. Refusal) [ zero ↦ firstRefusal qs | suc m ↦ q ]) e
+
+-- Each question of the list is passed.
+abbrev pub NoneRefuses : List Refusal → Type 0
+NoneRefuses [] = Unit {0}
+NoneRefuses (q ∷ qs) = (q .number ≡ 0) × NoneRefuses qs
+
+pub all-none : (qs : List Refusal) → firstRefusal qs .number ≡ 0 → NoneRefuses qs
+all-none [] h = tt
+all-none (q ∷ qs) h = let p = list-none q qs h in (p .0, all-none qs (p .1))
+
+pub all-yes : (qs : List Refusal) → NoneRefuses qs → firstRefusal qs ≡ noRefusal
+all-yes [] h = refl
+all-yes (q ∷ qs) h = list-next q qs (h .0) ∙ all-yes qs (h .1)
+
+infixr 5 _then_
+-- The first question is passed, and so are the others.
+pub _then_ {ℓ κ} : {A : Type ℓ} {B : Type κ} → A → B → A × B
+a then b = (a, b)
+
+pub number-none : (q : Refusal) → q ≡ noRefusal → q .number ≡ 0
+number-none q e = ap (λ (x : Refusal). x .number) e
+
+-- ---- a question asked once
+
+pub question-none : (n : ℕ) (t : Bool) → question (suc n) t .number ≡ 0 → t ≡ true
+question-none n true h = refl
+question-none n false h = absurd (omega arith)
+
+pub question-yes : (n : ℕ) (t : Bool) → t ≡ true → question n t ≡ noRefusal
+question-yes n t e = rw e
+
+pub question-of : (n : ℕ) (t : Bool) → t ≡ true → question n t .number ≡ 0
+question-of n t e = number-none (question n t) (question-yes n t e)
+
+-- ---- questions asked of items in turn
+
+module _ (n : ℕ) (f : ℕ → ℕ) where
+  -- The first item refused; n if none is.
+  abbrev found : ℕ
+  found = firstFrom 0 n (λ i. ltb 0 (f i))
+
+  pub items-none : itemQuestions n f .number ≡ 0 → (j : ℕ) → j < n → f j ≡ 0
+  items-none h j b = go (ltb found n) refl h
+    where
+      go : (t : Bool) → ltb found n ≡ t → (cond t (record { number = f found; place = found }) noRefusal) .number ≡ 0 → f j ≡ 0
+      go true e k =
+          let l = ltb-true found n e in
+          let p = ltb-true 0 (f found) (first-is 0 n (λ i. ltb 0 (f i)) .holds (omega arith)) in
+          absurd (omega (arith, p, k))
+      go false e k =
+          let l = ltb-false found n e in
+          let p = ltb-false 0 (f j) (first-is 0 n (λ i. ltb 0 (f i)) .before j (omega arith) (omega (arith, l))) in
+          omega (arith, p)
+
+  pub items-yes : ((j : ℕ) → j < n → f j ≡ 0) → itemQuestions n f ≡ noRefusal
+  items-yes h =
+      let e = first-none 0 n (λ i. ltb 0 (f i)) (λ j _ b. le-ltb 0 (f j) (omega (arith, h j (omega arith)))) in
+      let t : ltb found n ≡ false = le-ltb found n (omega (arith, e)) in
+      ap (λ (b : Bool). cond b (record { number = f found; place = found }) noRefusal) t
+
+-- ---- a chain of tests that ends in 0: each was passed
+
+pub passed : (t : Bool) (n k : ℕ) → cond (not t) (suc n) k ≡ 0 → (t ≡ true) × (k ≡ 0)
+passed true n k h = (refl, h)
+passed false n k h = absurd (omega arith)
+
+pub passed-of : (t : Bool) (n k : ℕ) → t ≡ true → k ≡ 0 → cond (not t) n k ≡ 0
+passed-of true n k e z = z
+passed-of false n k e z = absurd (false≢true e)

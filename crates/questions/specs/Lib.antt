@@ -1,0 +1,2 @@
+-- The questions, and the refusal of each operation.
+pub mod Questions

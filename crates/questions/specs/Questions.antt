@@ -1,0 +1,190 @@
+-- The scope paper's "Questions, in order", each a test, and the refusal of each operation from its arguments alone: bytes, numbers and lengths.
+-- A refusal is the number of the first question answered with no, and its place: the block for 2 to 5, the row for 6 to 9 and 13, else 0.
+-- Interface: Refusal, noRefusal, fileRefusal (1 to 10), foldRefusal (1 to 16), runRefusal (1 to 10, 17 to 20), showRefusal (1 to 10, 21), Counts, countsOf.
+-- Assumes nothing.
+use Prim.Native.Nat.{ℕ, zero, suc, _+_, _-_, _*_, _/_, _%_, _^_}
+use mathlib.Core.Bool.{Bool, true, false, cond, not, _&&_, _||_}
+use mathlib.Core.List.{List, [], _∷_, map}
+use mathlib.Core.Option.{Option, none, some}
+use lib.ListN.{length}
+use lib.Dec.{eqb, ltb, leb}
+use Rattle.memory.specs.Lists.{allBelow, firstFrom, countIf}
+use Rattle.memory.specs.Fields.{byteAt}
+use Rattle.netlist.specs.Limits.{mostFileBytes, mostPhases, mostOriginalRows, mostOriginalRegisters, foldResultBytes, foldWorkBytes, foldClockEntries, mostSteps, runWorkBytes}
+use Rattle.netlist.specs.Rows.{Row, constant, input, register, andGate, xorGate, muxGate, output, RowFields, decodeRow, rowAt, kindOf, labelOf, phaseOf, hasName, isNamed, isInput, isRegister, isUnknown, isOutput}
+use Rattle.netlist.specs.FileFormat.{lastMark, wordSum, rightSum, blockCount, fieldsOf, fieldsAt, netlistOf}
+use Rattle.lasso.specs.LassoSearch.{Lasso, findLasso}
+
+-- A refusal; number 0 is none, and its place is 0.
+pub record Refusal : Type 0 where
+  pub number : ℕ
+  pub place : ℕ
+
+abbrev pub noRefusal : Refusal
+noRefusal = record { number = 0; place = 0 }
+
+-- The first of these that is a refusal.
+abbrev pub firstRefusal : List Refusal → Refusal
+firstRefusal [] = noRefusal
+firstRefusal (q ∷ qs) = elim (q .number) [ zero ↦ firstRefusal qs | suc n ↦ q ]
+
+-- The question of this number, asked once, with place 0.
+abbrev pub question : ℕ → Bool → Refusal
+question number answer = cond answer noRefusal (record { number = number; place = 0 })
+
+-- Questions asked of items 0 to n - 1 in turn: f is the number of an item's first no, or 0.
+abbrev pub itemQuestions : ℕ → (ℕ → ℕ) → Refusal
+itemQuestions n f = let i = firstFrom 0 n (λ i. ltb 0 (f i)) in cond (ltb i n) (record { number = f i; place = i }) noRefusal
+
+-- ---- 1 to 5: the length, and block B
+
+abbrev pub lengthRight : List ℕ → Bool
+lengthRight f = eqb (length f % 512) 0 && leb 512 (length f) && leb (length f) mostFileBytes
+
+abbrev pub sumRight : List ℕ → ℕ → Bool
+sumRight f B = eqb (wordSum f (512 * B) 128 % 2 ^ 32) rightSum
+
+abbrev pub headRight : List ℕ → ℕ → Bool
+headRight f B = eqb (byteAt f (512 * B)) (lastMark (blockCount f) B) && eqb (byteAt f (512 * B + 1)) B && eqb (byteAt f (512 * B + 3)) 0
+
+-- 63 rows, and in the last block 1 to 63.
+abbrev pub countRight : List ℕ → ℕ → Bool
+countRight f B = let n = byteAt f (512 * B + 2) in cond (eqb (suc B) (blockCount f)) (leb 1 n && leb n 63) (eqb n 63)
+
+abbrev pub unusedRight : List ℕ → ℕ → Bool
+unusedRight f B = let n = byteAt f (512 * B + 2) in allBelow (504 - 8 * n) (λ i. eqb (byteAt f (512 * B + 4 + 8 * n + i)) 0)
+
+unfoldable pub blockQuestions : List ℕ → ℕ → ℕ
+blockQuestions f B = cond (not (sumRight f B)) 2 (cond (not (headRight f B)) 3 (cond (not (countRight f B)) 4 (cond (not (unusedRight f B)) 5 0)))
+
+-- ---- 6 to 10: row i, and the rows
+
+-- 6: kind 0 to 6; kind 0 in row 0 and in no other; a node has no output before it.
+abbrev pub kindRight : List RowFields → List Row → ℕ → Bool
+kindRight ws rows i =
+    let k = fieldsAt ws i .kind in
+    leb k 6 && cond (eqb k 0) (eqb i 0) (not (eqb i 0)) && (isOutput (rowAt rows i) || allBelow i (λ j. not (isOutput (rowAt rows j))))
+
+-- 7, by kind, reset and the fields a, b, c.
+abbrev pub fieldsRight : ℕ → ℕ → ℕ → ℕ → ℕ → Bool
+fieldsRight zero r a b c = eqb r 0 && eqb a 0 && eqb b 0 && eqb c 0
+fieldsRight (suc zero) r a b c = eqb r 0 && ltb b mostPhases && eqb c 0
+fieldsRight (suc (suc zero)) r a b c = leb r 2 && eqb c 0
+fieldsRight (suc (suc (suc zero))) r a b c = eqb r 0 && eqb c 0
+fieldsRight (suc (suc (suc (suc zero)))) r a b c = eqb r 0 && eqb c 0
+fieldsRight (suc (suc (suc (suc (suc zero))))) r a b c = eqb r 0
+fieldsRight (suc (suc (suc (suc (suc (suc k)))))) r a b c = eqb r 0 && ltb c mostPhases
+
+-- 8: an input's or output's label and phase, or a register's label, is in no earlier row of its kind.
+abbrev pub sameName : Row → Row → Bool
+sameName r s = hasName r && isNamed (kindOf r) (labelOf r) (phaseOf r) s
+
+abbrev pub labelIsNew : List Row → ℕ → Bool
+labelIsNew rows i = allBelow i (λ j. not (sameName (rowAt rows i) (rowAt rows j)))
+
+-- 9: the literal names a node, a row of the file that is no output, wherever that stands.
+abbrev pub namesNode : List Row → ℕ → Bool
+namesNode rows l = ltb (l / 2) (length rows) && not (isOutput (rowAt rows (l / 2)))
+
+-- 9, for an operand of the gate in row i: a row of smaller number, which is a node, since 6 is asked of the gate first.
+abbrev pub namesEarlier : List Row → ℕ → ℕ → Bool
+namesEarlier rows i l = ltb (l / 2) i
+
+-- 9, where `operand` says what a gate's operands may name.
+abbrev pub literalsRight : (List Row → ℕ → ℕ → Bool) → List Row → ℕ → Row → Bool
+literalsRight operand rows i constant = true
+literalsRight operand rows i (input l p) = true
+literalsRight operand rows i (register r n l) = namesNode rows n
+literalsRight operand rows i (andGate a b) = operand rows i a && operand rows i b
+literalsRight operand rows i (xorGate a b) = operand rows i a && operand rows i b
+literalsRight operand rows i (muxGate a b c) = operand rows i a && operand rows i b && operand rows i c
+literalsRight operand rows i (output a l p) = namesNode rows a
+
+unfoldable pub rowQuestions : (List Row → ℕ → ℕ → Bool) → List RowFields → ℕ → ℕ
+rowQuestions operand ws i =
+    let w = fieldsAt ws i in
+    let rows = map decodeRow ws in
+    cond (not (kindRight ws rows i)) 6
+    (cond (not (fieldsRight (w .kind) (w .reset) (w .a) (w .b) (w .c))) 7
+    (cond (not (labelIsNew rows i)) 8
+    (cond (not (literalsRight operand rows i (rowAt rows i))) 9 0)))
+
+unfoldable pub rowsRefusal : (List Row → ℕ → ℕ → Bool) → List RowFields → Refusal
+rowsRefusal operand ws = firstRefusal (itemQuestions (length ws) (rowQuestions operand ws) ∷ question 10 (ltb 0 (countIf isOutput (map decodeRow ws))) ∷ [])
+
+unfoldable pub fileRefusalWith : (List Row → ℕ → ℕ → Bool) → List ℕ → Refusal
+fileRefusalWith operand f = firstRefusal (question 1 (lengthRight f) ∷ itemQuestions (blockCount f) (blockQuestions f) ∷ rowsRefusal operand (fieldsOf f) ∷ [])
+
+-- Check, and what every operation asks first.
+abbrev pub fileRefusal : List ℕ → Refusal
+fileRefusal f = fileRefusalWith namesEarlier f
+
+-- ---- Fold: wish, and the lengths of result, work and clock list
+
+-- 13, of row i.
+abbrev pub phaseQuestion : List Row → ℕ → ℕ
+phaseQuestion rows i = cond (eqb (phaseOf (rowAt rows i)) 0) 0 13
+
+-- 11 to 13: what Fold asks of the rows alone.
+unfoldable pub originalRefusal : List Row → Refusal
+originalRefusal rows = firstRefusal (question 11 (leb (length rows) mostOriginalRows) ∷ question 12 (leb (countIf isRegister rows) mostOriginalRegisters) ∷ itemQuestions (length rows) (phaseQuestion rows) ∷ [])
+
+abbrev pub foldMemoryRight : ℕ → ℕ → ℕ → Bool
+foldMemoryRight result work clocks = leb foldResultBytes result && leb foldWorkBytes work && leb foldClockEntries clocks
+
+abbrev pub hasLasso : List Row → Bool
+hasLasso rows = elim (findLasso rows) [ none ↦ false | some z ↦ true ]
+
+unfoldable pub foldRefusal : List ℕ → ℕ → ℕ → ℕ → ℕ → Refusal
+foldRefusal file wish result work clocks =
+    firstRefusal
+    (fileRefusal file
+    ∷ originalRefusal (netlistOf file)
+    ∷ question 14 (leb wish mostPhases)
+    ∷ question 15 (foldMemoryRight result work clocks)
+    ∷ question 16 (hasLasso (netlistOf file))
+    ∷ [])
+
+-- ---- Run: T steps, the two lists of values, and the lengths of result and work
+
+abbrev pub valueListsRight : List Row → ℕ → List ℕ → List ℕ → Bool
+valueListsRight rows T choices inputs = eqb (length choices) (countIf isUnknown rows) && eqb (length inputs) (T * countIf isInput rows)
+
+abbrev pub allBinary : List ℕ → Bool
+allBinary vs = allBelow (length vs) (λ i. leb (byteAt vs i) 1)
+
+abbrev pub runMemoryRight : List Row → ℕ → ℕ → ℕ → Bool
+runMemoryRight rows T result work = leb (T * countIf isOutput rows) result && leb runWorkBytes work
+
+unfoldable pub runRefusal : List ℕ → ℕ → List ℕ → List ℕ → ℕ → ℕ → Refusal
+runRefusal file T choices inputs result work =
+    let rows = netlistOf file in
+    firstRefusal
+    (fileRefusal file
+    ∷ question 17 (leb T mostSteps)
+    ∷ question 18 (valueListsRight rows T choices inputs)
+    ∷ question 19 (allBinary choices && allBinary inputs)
+    ∷ question 20 (runMemoryRight rows T result work)
+    ∷ [])
+
+-- ---- Show of block B, and Count
+
+unfoldable pub showRefusal : List ℕ → ℕ → Refusal
+showRefusal file B = firstRefusal (fileRefusal file ∷ question 21 (ltb B (blockCount file)) ∷ [])
+
+-- What Count answers of an accepted file; the nodes include the constant.
+pub record Counts : Type 0 where
+  pub nodes : ℕ
+  pub inputs : ℕ
+  pub registers : ℕ
+  pub unknown : ℕ
+  pub outputs : ℕ
+
+abbrev pub countsOf : List Row → Counts
+countsOf rows = record {
+  nodes = countIf (λ r. not (isOutput r)) rows;
+  inputs = countIf isInput rows;
+  registers = countIf isRegister rows;
+  unknown = countIf isUnknown rows;
+  outputs = countIf isOutput rows;
+}
