@@ -1,0 +1,5 @@
+-- The proofs of what is promised.
+pub mod WriteThenRead
+pub mod ReadThenWrite
+pub mod AcceptedResult
+pub mod FoldPromise

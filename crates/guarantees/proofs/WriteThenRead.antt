@@ -1,0 +1,108 @@
+-- A netlist written and read again is the same netlist, and its file is accepted.
+-- Assumes nothing.
+use Prim.Native.Nat.{ℕ, suc, _+_, _*_, _<_, _≤_, _/_, _%_, _^_}
+use mathlib.Core.Path.{_≡_, refl, sym, ap, _∙_}
+use mathlib.Core.Bool.{true}
+use mathlib.Core.List.{List, map}
+use native.Mathlib.Omega.{arith}
+use native.Mathlib.Decide.{decLt}
+use lib.ListN.{length, length-map}
+use Rattle.memory.specs.Fields.{IsBytes, byteAt}
+use Rattle.netlist.specs.Limits.{mostRows, mostPhases}
+use Rattle.netlist.specs.Rows.{Row, constant, input, register, andGate, xorGate, muxGate, output, encodeRow, rowAt, labelOf, phaseOf}
+use Rattle.netlist.specs.FileFormat.{lastMark, blockCount, blockRows, blocksFor, fieldsOf, netlistOf, fileOf}
+use Rattle.netlist.proofs.RowLaws.{decode-rows, EachRow}
+use Rattle.netlist.proofs.WellFormed.{ResetIn, NamesNode, OnLiterals}
+use Rattle.netlist.proofs.FileLaws.{FieldsFit, writtenBlock, sum-cong, block-head, block-unused, block-sum, part-small, part-length, file-length, file-blocks, file-at, file-count, fields-back, read-back, file-is-bytes}
+use Rattle.questions.specs.Questions.{noRefusal, namesEarlier, literalsRight, fileRefusal}
+use Rattle.questions.proofs.PlainWords.{LengthWords, BlockWords, literalsRight-iff, namesEarlier-iff}
+use Rattle.questions.proofs.AcceptedFiles.{RowsRight, rows-right, file-yes, CheckedRows, rows-checked}
+use Rattle.guarantees.specs.RoundTrips.{Writable}
+
+-- ---- questions 1 to 5
+
+module _ (rs : List Row) (some-rows : 1 ≤ length rs) (few : length rs ≤ mostRows) where
+  size-is-right : LengthWords (fileOf rs)
+  size-is-right = let n = file-length rs in record { whole = omega arith; some-blocks = omega arith; few-blocks = omega arith }
+
+  module _ (B : ℕ) (h : B < blocksFor (length rs)) where
+    byte-of : (o x : ℕ) → x ≡ 512 * B + o → o < 512 → byteAt (fileOf rs) x ≡ byteAt (writtenBlock rs B) o
+    byte-of o x q l = ap (byteAt (fileOf rs)) q ∙ file-at rs B o h l
+
+    not-last : ¬ (suc B ≡ blockCount (fileOf rs)) → suc B < blocksFor (length rs)
+    not-last n = elim (decLt (suc B) (blocksFor (length rs))) [ yes l ↦ l | no l ↦ absurd (n (omega (arith, file-blocks rs))) ]
+
+    block-is-right : BlockWords (fileOf rs) B
+    block-is-right =
+        let k = blocksFor (length rs) in
+        let part = blockRows rs B in
+        let small = part-small rs B in
+        let head = block-head k B part small in
+        let e = file-blocks rs in
+        let c = file-count rs B h in
+        let p = part-length rs B in
+        record {
+          sum = ap (λ (n : ℕ). n % 2 ^ 32) (sum-cong (fileOf rs) (writtenBlock rs B) (512 * B) 0 128 (λ i l. let q : i ≡ 0 + i = omega arith in file-at rs B i h (omega arith) ∙ ap (byteAt (writtenBlock rs B)) q)) ∙ block-sum k B part small;
+          mark = byte-of 0 (512 * B) (omega arith) (omega arith) ∙ head .0 ∙ ap (λ (n : ℕ). lastMark n B) (sym e);
+          number = byte-of 1 (512 * B + 1) refl (omega arith) ∙ head .1;
+          zero-byte = byte-of 3 (512 * B + 3) refl (omega arith) ∙ head .3;
+          count-last = λ l. (omega arith, omega arith);
+          count-other = λ l. (let m : suc B < k = not-last l in omega arith);
+          unused = λ i l. byte-of (4 + (8 * length part + i)) (512 * B + 4 + 8 * byteAt (fileOf rs) (512 * B + 2) + i) (omega arith) (omega arith) ∙ block-unused k B part small i (omega arith);
+        }
+
+  -- Rows that fit and pass questions 6 to 10 are those of an accepted file.
+  pub file-accepted : EachRow (λ r. FieldsFit (encodeRow r)) rs → RowsRight namesEarlier (map encodeRow rs) → fileRefusal (fileOf rs) ≡ noRefusal
+  unfolding netlistOf
+  file-accepted fits R =
+      let R′ : RowsRight namesEarlier (fieldsOf (fileOf rs)) = rw (fields-back rs fits) R in
+      file-yes namesEarlier (fileOf rs) (record { size = size-is-right; blocks = λ B h. block-is-right B (omega (arith, h, file-blocks rs)); rows = R′ .rows; some-output = R′ .some-output })
+
+-- ---- what fits
+
+-- A row whose literals name rows below m, at most mostRows, with label and phase in range.
+row-fits : (m : ℕ) (P Q : ℕ → Type 0) → m ≤ mostRows → ((l : ℕ) → P l → l / 2 < m) → ((l : ℕ) → Q l → l / 2 < m) → (r : Row) → OnLiterals P Q r → labelOf r < 2 ^ 16 → phaseOf r < mostPhases → FieldsFit (encodeRow r)
+row-fits m P Q n f g constant w a p = record { a-fits = omega arith; b-fits = omega arith; c-fits = omega arith }
+row-fits m P Q n f g (input _ _) w a p = record { a-fits = a; b-fits = omega arith; c-fits = omega arith }
+row-fits m P Q n f g (register _ u _) w a p = record { a-fits = omega (arith, g u w); b-fits = a; c-fits = omega arith }
+row-fits m P Q n f g (andGate u v) w a p = record { a-fits = omega (arith, f u (w .0)); b-fits = omega (arith, f v (w .1)); c-fits = omega arith }
+row-fits m P Q n f g (xorGate u v) w a p = record { a-fits = omega (arith, f u (w .0)); b-fits = omega (arith, f v (w .1)); c-fits = omega arith }
+row-fits m P Q n f g (muxGate u v x) w a p = record { a-fits = omega (arith, f u (w .0 .0)); b-fits = omega (arith, f v (w .0 .1)); c-fits = omega (arith, f x (w .1)) }
+row-fits m P Q n f g (output u _ _) w a p = record { a-fits = omega (arith, g u w); b-fits = a; c-fits = omega arith }
+
+-- A reset in range is a byte.
+reset-small : (r : Row) → ResetIn r → encodeRow r .reset < 2 ^ 8
+reset-small constant h = omega arith
+reset-small (input _ _) h = omega arith
+reset-small (register _ _ _) h = omega (arith, h)
+reset-small (andGate _ _) h = omega arith
+reset-small (xorGate _ _) h = omega arith
+reset-small (muxGate _ _ _) h = omega arith
+reset-small (output _ _ _) h = omega arith
+
+module _ (rows : List Row) (w : Writable rows) where
+  right : RowsRight namesEarlier (map encodeRow rows)
+  right = rows-right namesEarlier (map encodeRow rows) (rw (w .pass))
+
+  checked : CheckedRows rows
+  checked = rw (decode-rows rows) at (rows-checked (map encodeRow rows) right)
+
+  some-rows : 1 ≤ length rows
+  some-rows = omega (arith, checked .has-output .4)
+
+  literals : (i : ℕ) → i < length rows → OnLiterals (λ l. l / 2 < i) (NamesNode rows) (rowAt rows i)
+  literals i h =
+      let t : literalsRight namesEarlier rows i (rowAt rows i) ≡ true = rw (decode-rows rows) at (right .rows i (omega (arith, h, length-map rows encodeRow)) .literals) in
+      literalsRight-iff namesEarlier rows i (λ l. l / 2 < i) (namesEarlier-iff rows i) (rowAt rows i) .0 t
+
+  fits : EachRow (λ r. FieldsFit (encodeRow r)) rows
+  fits i h = row-fits (length rows) (λ l. l / 2 < i) (NamesNode rows) (w .few) (λ l b. omega arith) (λ l n. n .0) (rowAt rows i) (literals i h) (w .labels i h) (checked .phases i h)
+
+  pub writable-read : netlistOf (fileOf rows) ≡ rows
+  writable-read = read-back rows fits
+
+  pub writable-accepted : fileRefusal (fileOf rows) ≡ noRefusal
+  writable-accepted = file-accepted rows some-rows (w .few) fits right
+
+  pub writable-bytes : IsBytes (fileOf rows)
+  writable-bytes = file-is-bytes rows (w .few) (λ i h. reset-small (rowAt rows i) (checked .resets i h))

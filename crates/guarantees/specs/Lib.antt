@@ -1,0 +1,3 @@
+-- What is promised: the file's round trips, and what an accepted fold guarantees.
+pub mod RoundTrips
+pub mod FoldGuarantee
