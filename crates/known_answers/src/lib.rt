@@ -1,0 +1,1 @@
+// Known answers as one checked claim; no code.
