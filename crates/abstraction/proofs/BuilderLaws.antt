@@ -1,7 +1,7 @@
 -- The laws of `addImage` and of a row's image. All that stands above goes by these: an image adds one literal, and at most one row, which is the new row.
 -- Assumes nothing.
-use Prim.Native.Nat.{ℕ, zero, suc, _+_, _-_, _*_, _<_, _≤_, _/_, _%_}
-use mathlib.Core.Path.{_≡_, refl, sym, ap, _∙_, subst}
+use Prim.Native.Nat.{ℕ, zero, suc, _+_, _*_, _<_, _≤_, _/_, _%_}
+use mathlib.Core.Path.{_≡_, refl, sym, ap, _∙_}
 use mathlib.Core.Bool.{Bool, true, false, _||_, false≢true}
 use mathlib.Core.List.{List, [], _∷_, _++_}
 use native.Mathlib.Omega.{arith}
@@ -14,7 +14,7 @@ use Rattle.netlist.specs.Rows.{Row, constant, input, register, andGate, xorGate
 use Rattle.netlist.specs.Simulation.{boolLogic, complementIf, literalValue, rowValue}
 use Rattle.netlist.proofs.RowLaws.{unnamed, EachRow, each-append, each-one}
 use Rattle.netlist.proofs.WellFormed.{OperandsBelow, Ordered}
-use Rattle.abstraction.specs.GateMaking.{complement, Image, existing, newRow, Unrolling, addImage}
+use Rattle.abstraction.specs.GateMaking.{Image, existing, newRow, Unrolling, addImage}
 use Rattle.abstraction.specs.Unrolling.{complementBy, imageLiteral, registerImage, rowImage}
 use Rattle.abstraction.proofs.GateLaws.{Makes, GateOver, and-over, xor-over, mux-over}
 

@@ -1,9 +1,9 @@
 -- Demand 3, proved: the folded netlist shows what the original shows, for every accepted fold, whatever the wish and whatever the number of steps.
 -- From step T on, the original is given what the folded netlist is given: then both runs agree at every step, and the first T steps do not see it.
 -- Assumes nothing.
-use Prim.Native.Nat.{ℕ, zero, suc, _+_, _-_, _*_, _<_, _≤_, _/_, _%_}
+use Prim.Native.Nat.{ℕ, zero, suc, _+_, _*_, _<_, _/_, _%_}
 use mathlib.Core.Path.{_≡_, refl, sym, ap, _∙_, subst}
-use mathlib.Core.Bool.{Bool, true, false, cond, _&&_, _||_}
+use mathlib.Core.Bool.{Bool, true, cond, _&&_, _||_}
 use mathlib.Core.List.{List}
 use mathlib.Core.Option.{some}
 use native.Mathlib.Omega.{arith}
@@ -15,7 +15,7 @@ use borrow.Author.Tests.{ltb-true, lt-ltb}
 use Rattle.memory.proofs.TestLaws.{cond-case}
 use Rattle.ternary.specs.Ternary.{Ternary}
 use Rattle.ternary.proofs.RuleLaws.{Covers}
-use Rattle.netlist.specs.Rows.{Row, constant, input, register, andGate, xorGate, muxGate, output, encodeRow, rowAt, kindOf, labelOf, phaseOf, hasName, isRegister, isOutput, isUnknown, isNamed, rowNamed, firstRow, HasRow, HasInput, HasRegister, HasUnknown, HasOutput}
+use Rattle.netlist.specs.Rows.{Row, constant, input, register, andGate, xorGate, muxGate, output, encodeRow, rowAt, kindOf, labelOf, phaseOf, hasName, isUnknown, isNamed, rowNamed, firstRow, HasRow, HasRegister, HasUnknown, HasOutput}
 use Rattle.netlist.specs.Simulation.{boolLogic, valueAt, runState, runValue, RunValues, outputShows, registerHolds}
 use Rattle.netlist.proofs.RowLaws.{RowIn, named-is, named-of, named-input, named-register, named-output, unknown-is, unknown-of, has-at, has-of}
 use Rattle.netlist.proofs.WellFormed.{ResetIn, AcceptedRows}
@@ -27,7 +27,7 @@ use Rattle.lasso.proofs.GeneratorLaws.{clock-covers}
 use Rattle.abstraction.specs.Compaction.{compact}
 use Rattle.abstraction.specs.Fold.{foldWith}
 use Rattle.abstraction.specs.SameBehaviour.{FedAlike, AgreeOnKept, SameBehaviour, StandsFor}
-use Rattle.abstraction.proofs.FoldedRun.{folded, Origin, origin, output-kept, Follows, follows}
+use Rattle.abstraction.proofs.FoldedRun.{folded, origin, output-kept, Follows, follows}
 
 -- A row of an accepted original, by its kind and label.
 module _ (rows : List Row) (ok : AcceptedRows rows) where

@@ -1,9 +1,9 @@
 -- The folded netlist beside the original, for runs that agree on what is kept at every step; and where its rows come from.
 -- Assumes nothing.
-use Prim.Native.Nat.{ℕ, zero, suc, _+_, _-_, _*_, _<_, _≤_, _/_, _%_}
+use Prim.Native.Nat.{ℕ, suc, _+_, _*_, _<_, _≤_, _%_}
 use mathlib.Core.Path.{_≡_, refl, sym, ap, _∙_, subst}
-use mathlib.Core.Bool.{Bool, true, false, cond, not, _&&_, _||_, false≢true}
-use mathlib.Core.List.{List, [], _∷_, _++_, map}
+use mathlib.Core.Bool.{Bool, true, false, false≢true}
+use mathlib.Core.List.{List}
 use native.Mathlib.Omega.{arith}
 use native.Mathlib.Decide.{decLt}
 use lib.Dec.{eqb}
@@ -11,7 +11,7 @@ use lib.ListN.{length, getD}
 use Rattle.ternary.specs.Ternary.{Ternary}
 use Rattle.ternary.proofs.RuleLaws.{Covers}
 use Rattle.netlist.specs.Rows.{Row, constant, input, register, andGate, xorGate, muxGate, output, encodeRow, rowAt, kindOf, nameOf, labelOf, phaseOf, hasName, isRegister, isOutput, onRegister, onOutput, mapLiterals}
-use Rattle.netlist.specs.Simulation.{boolLogic, literalValue, rowValue, valueAt, runState, runValue}
+use Rattle.netlist.specs.Simulation.{boolLogic, valueAt, runState, runValue}
 use Rattle.netlist.proofs.RowLaws.{SameName, named-alike, RowIn}
 use Rattle.netlist.proofs.WellFormed.{OperandsBelow, Ordered, NextBelow, WellFormed}
 use Rattle.netlist.proofs.SimulationLaws.{held, state-at}
@@ -19,7 +19,7 @@ use Rattle.abstraction.specs.Unrolling.{imageLiteral, patchNext, unrollP
 use Rattle.abstraction.specs.Compaction.{faninNodes, isConeRoot, isMarked, coneOfInfluence, newIndex, renumberLiteral}
 use Rattle.abstraction.proofs.BuilderLaws.{image-below}
 use Rattle.abstraction.proofs.UnrollLaws.{unroll-formed}
-use Rattle.abstraction.proofs.UnrolledRun.{OutputOf, whole-front, whole-back, whole-has, ordered-whole, length-whole, held-at, output-value}
+use Rattle.abstraction.proofs.UnrolledRun.{whole-front, whole-back, whole-has, ordered-whole, length-whole, held-at, output-value}
 use Rattle.abstraction.proofs.Provenance.{Source, phase-before, unroll-named, unroll-nodes}
 use Rattle.abstraction.proofs.CompactionLaws.{renumbered, ClosedUnderFanin, KeptRow, kept, kept-at, kept-lt, kept-from, register-same, value-same}
 use Rattle.abstraction.proofs.ConeLaws.{EachBelow, cone-length, cone-closed, cone-root}

@@ -1,14 +1,14 @@
 -- The laws of gate making: each rule keeps the gate's value, and makes a literal of rows that are there or one gate of its kind over them.
 -- Assumes nothing.
-use Prim.Native.Nat.{ℕ, zero, suc, _+_, _-_, _*_, _<_, _≤_, _/_, _%_, min, max}
-use mathlib.Core.Path.{_≡_, refl, sym, ap, _∙_, subst}
+use Prim.Native.Nat.{ℕ, zero, suc, _+_, _-_, _<_, _/_, _%_, min, max}
+use mathlib.Core.Path.{_≡_, refl, sym, ap, _∙_}
 use mathlib.Core.Bool.{Bool, true, false, cond, not, _&&_, _||_}
 use native.Mathlib.Omega.{arith}
 use native.Mathlib.Decide.{decLe}
 use borrow.Author.Tests.{eqb-true}
 use lib.Dec.{eqb}
 use Rattle.memory.proofs.TestLaws.{cond-case, or-case}
-use Rattle.netlist.specs.Rows.{Row, constant, input, register, andGate, xorGate, muxGate, output, kindOf}
+use Rattle.netlist.specs.Rows.{Row, kindOf}
 use Rattle.netlist.specs.Simulation.{boolLogic, boolXor, complementIf, literalValue, rowValue}
 use Rattle.netlist.proofs.WellFormed.{OperandsBelow}
 use Rattle.abstraction.specs.GateMaking.{complement, positive, Image, existing, newRow, makeAnd, makeXor, makeMux}

@@ -1,9 +1,9 @@
 -- One group: the image of a row in phase k has the value that the row has at the group's step k.
 -- Assumes nothing.
-use Prim.Native.Nat.{ℕ, zero, suc, _+_, _-_, _*_, _<_, _≤_, _/_, _%_}
-use mathlib.Core.Path.{_≡_, refl, sym, ap, _∙_, subst}
-use mathlib.Core.Bool.{Bool, true, false, cond, not, _&&_}
-use mathlib.Core.List.{List, [], _∷_, _++_, map}
+use Prim.Native.Nat.{ℕ, zero, suc, _<_, _≤_, _/_, _%_}
+use mathlib.Core.Path.{_≡_, refl, sym, ap, _∙_}
+use mathlib.Core.Bool.{Bool, false}
+use mathlib.Core.List.{List}
 use native.Mathlib.Omega.{arith}
 use lib.ListN.{length, getD}
 use Rattle.ternary.specs.Ternary.{Ternary}
@@ -11,7 +11,6 @@ use Rattle.ternary.proofs.RuleLaws.{Covers, is-lo, is-hi, any}
 use Rattle.netlist.specs.Rows.{Row, constant, input, register, andGate, xorGate, muxGate, output, rowAt, phaseOf}
 use Rattle.netlist.specs.Simulation.{boolLogic, complementIf, literalValue, rowValue, nextValue}
 use Rattle.netlist.proofs.WellFormed.{OperandsBelow, NextBelow, WellFormed}
-use Rattle.abstraction.specs.GateMaking.{Image, Unrolling, addImage}
 use Rattle.abstraction.specs.Unrolling.{imageLiteral, registerImage, rowImage, imageAt, unrollPhase, unrollPhases}
 use Rattle.abstraction.proofs.GateLaws.{literal-one, literal-by, Makes, and-makes, xor-makes, mux-makes}
 use Rattle.abstraction.proofs.BuilderLaws.{Satisfies, add-rows, added-satisfies, add-literal, add-each}

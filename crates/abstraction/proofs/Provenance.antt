@@ -2,7 +2,7 @@
 -- Assumes nothing.
 use Prim.Native.Nat.{ℕ, zero, suc, _+_, _-_, _<_, _≤_}
 use mathlib.Core.Path.{_≡_, refl, sym, ap, _∙_, subst}
-use mathlib.Core.Bool.{Bool, true, false, false≢true}
+use mathlib.Core.Bool.{true, false, false≢true}
 use mathlib.Core.List.{List, [], _∷_, _++_, append-assoc, append-nil}
 use native.Mathlib.Omega.{arith}
 use native.Mathlib.Decide.{decLt}
@@ -14,9 +14,9 @@ use Rattle.ternary.specs.Ternary.{Ternary}
 use Rattle.netlist.specs.Rows.{Row, constant, input, register, andGate, xorGate, muxGate, output, rowAt, kindOf, labelOf, phaseOf, hasName, isRegister, isOutput}
 use Rattle.netlist.proofs.RowLaws.{SameName, named-alike, EachRow, each-append, each-one}
 use Rattle.netlist.proofs.WellFormed.{AcceptedRows}
-use Rattle.abstraction.specs.GateMaking.{Image, newRow}
+use Rattle.abstraction.specs.GateMaking.{Image}
 use Rattle.abstraction.specs.Unrolling.{phaseOutput, unrollPhases, phaseOutputs}
-use Rattle.abstraction.proofs.BuilderLaws.{NewRow, ImageOver, Added, none, one}
+use Rattle.abstraction.proofs.BuilderLaws.{ImageOver, Added, none, one}
 use Rattle.abstraction.proofs.UnrollLaws.{unroll-keeps}
 
 -- No two rows of the list have one kind, label and phase.

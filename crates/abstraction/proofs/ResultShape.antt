@@ -1,27 +1,27 @@
 -- The folded netlist is in the file's shape: the constant first, then nodes, then outputs; names unique, phases and resets in range, literals that name nodes.
 -- Assumes nothing.
-use Prim.Native.Nat.{ℕ, zero, suc, _+_, _-_, _*_, _<_, _≤_, _/_, _%_}
+use Prim.Native.Nat.{ℕ, zero, suc, _<_, _≤_, _/_}
 use mathlib.Core.Path.{_≡_, refl, sym, ap, _∙_, subst}
 use mathlib.Core.Logic.{_↔_}
-use mathlib.Core.Bool.{Bool, true, false, not, false≢true, true≢false}
-use mathlib.Core.List.{List, [], _∷_, _++_, map}
+use mathlib.Core.Bool.{Bool, true, false, false≢true, true≢false}
+use mathlib.Core.List.{List, map}
 use native.Mathlib.Omega.{arith}
 use native.Mathlib.Decide.{decLt}
 use lib.Dec.{eqb}
-use lib.ListN.{length, getD, length-map, List·getD-map}
+use lib.ListN.{length, length-map, List·getD-map}
 use Rattle.memory.specs.Lists.{joinBelow}
 use Rattle.ternary.specs.Ternary.{Ternary}
-use Rattle.netlist.specs.Rows.{Row, constant, input, register, andGate, xorGate, muxGate, output, encodeRow, rowAt, kindOf, labelOf, phaseOf, hasName, isRegister, isOutput, onRegister, onOutput}
+use Rattle.netlist.specs.Rows.{Row, constant, input, register, andGate, xorGate, muxGate, output, encodeRow, rowAt, kindOf, phaseOf, hasName, isOutput, onRegister, onOutput}
 use Rattle.netlist.proofs.RowLaws.{SameName, named-alike, unnamed}
 use Rattle.netlist.proofs.WellFormed.{OperandsBelow, NextBelow, ResetIn, NamesNode, OnLiterals, AcceptedRows}
-use Rattle.abstraction.specs.Unrolling.{patchNext, unrollPhases, phaseOutputs, unrolledNetlist}
+use Rattle.abstraction.specs.Unrolling.{patchNext, phaseOutputs, unrolledNetlist}
 use Rattle.abstraction.specs.Compaction.{faninNodes, isConeRoot, isMarked, newIndex, renumberLiteral, Reached}
 use Rattle.abstraction.proofs.UnrollLaws.{unroll-formed, unroll-grows}
-use Rattle.abstraction.proofs.UnrolledRun.{OutputOf, outputs-each, whole-front, whole-back, length-whole}
+use Rattle.abstraction.proofs.UnrolledRun.{outputs-each, whole-front, whole-back, length-whole}
 use Rattle.abstraction.proofs.Provenance.{NamesDistinct, distinct-append, unroll-named, unroll-nodes, outputs-named}
 use Rattle.abstraction.proofs.CompactionLaws.{renumbered, AllMarked, index-mono, kept-ordered}
 use Rattle.abstraction.proofs.ConeLaws.{cone-length, cone-root, cone-exact}
-use Rattle.abstraction.proofs.FoldedRun.{Alike, patch-alike, map-alike, whole, made, last, cone, folded, ordered, closed, whole-next, whole-fanin, folded-at, folded-lt, folded-from, folded-is, folded-alike, Origin, origin, output-kept}
+use Rattle.abstraction.proofs.FoldedRun.{Alike, patch-alike, map-alike, whole, made, last, cone, folded, ordered, closed, whole-next, whole-fanin, folded-at, folded-lt, folded-from, folded-is, folded-alike, origin, output-kept}
 
 pub record ResultShape (N : ℕ) (rows : List Row) : Type 0 where
   pub some-row : 0 < length rows

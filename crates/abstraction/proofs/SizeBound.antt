@@ -2,8 +2,8 @@
 -- Assumes nothing.
 use Prim.Native.Nat.{ℕ, zero, suc, _+_, _-_, _*_, _<_, _≤_}
 use mathlib.Core.Path.{_≡_, refl, sym, ap, _∙_, subst}
-use mathlib.Core.Bool.{Bool, true, false, cond, true≢false}
-use mathlib.Core.List.{List, [], _∷_, _++_, map}
+use mathlib.Core.Bool.{Bool, false, cond, true≢false}
+use mathlib.Core.List.{List, [], _∷_, map}
 use native.Mathlib.Omega.{arith}
 use native.Mathlib.Nat.{suc-mul, mul-le-mul, mul-add, le-refl}
 use lib.Dec.{eqb}
@@ -17,7 +17,7 @@ use Rattle.abstraction.specs.GateMaking.{Image}
 use Rattle.abstraction.specs.Unrolling.{phaseOutput, patchNext, unrollPhases, phaseOutputs, unrolledNetlist}
 use Rattle.abstraction.specs.Compaction.{isConeRoot, isMarked, coneOfInfluence, newIndex, compact}
 use Rattle.abstraction.specs.Fold.{foldWith}
-use Rattle.abstraction.proofs.BuilderLaws.{NewRow, ImageOver, Added, none, one, added-length}
+use Rattle.abstraction.proofs.BuilderLaws.{NewRow, ImageOver, Added, none, one}
 use Rattle.abstraction.proofs.UnrollLaws.{unroll-keeps}
 use Rattle.abstraction.proofs.CompactionLaws.{compact-length}
 

@@ -1,9 +1,9 @@
 -- The unrolled netlist, before the cone is taken, run beside the original, group after group.
 -- Assumes nothing.
 use Prim.Native.Nat.{ℕ, zero, suc, _+_, _-_, _*_, _<_, _≤_, _/_, _%_}
-use mathlib.Core.Path.{_≡_, refl, sym, ap, _∙_, subst}
-use mathlib.Core.Bool.{Bool, true, false, cond, not, _&&_, _||_}
-use mathlib.Core.List.{List, [], _∷_, _++_, map}
+use mathlib.Core.Path.{_≡_, refl, sym, ap, _∙_}
+use mathlib.Core.Bool.{Bool, false}
+use mathlib.Core.List.{List, _++_, map}
 use native.Mathlib.Omega.{arith}
 use native.Mathlib.Decide.{decLt}
 use native.Mathlib.Nat.{suc-mul, add-zero, add-suc, zero-mul}
@@ -14,13 +14,13 @@ use Rattle.memory.specs.Lists.{joinBelow}
 use Rattle.ternary.specs.Ternary.{Ternary}
 use Rattle.ternary.proofs.RuleLaws.{Covers}
 use Rattle.netlist.specs.Rows.{Row, constant, input, register, andGate, xorGate, muxGate, output, rowAt}
-use Rattle.netlist.specs.Simulation.{boolLogic, literalValue, rowValue, valueAt, resetValue, nextValue, runState, runValue}
+use Rattle.netlist.specs.Simulation.{boolLogic, literalValue, rowValue, valueAt, resetValue, runState, runValue}
 use Rattle.netlist.proofs.RowLaws.{EachRow, each-one, each-join, RowIn, in-right, in-join}
 use Rattle.netlist.proofs.WellFormed.{OperandsBelow, Ordered, WellFormed}
 use Rattle.netlist.proofs.SimulationLaws.{held, state-at, value-at}
 use Rattle.abstraction.specs.Unrolling.{imageLiteral, patchNext, phaseOutput, unrollPhases, phaseOutputs, unrolledNetlist}
-use Rattle.abstraction.proofs.BuilderLaws.{LiteralsBelow, Satisfies}
-use Rattle.abstraction.proofs.UnrollLaws.{FormedUnrolling, unroll-formed, unroll-grows, unroll-satisfies, unroll-zero}
+use Rattle.abstraction.proofs.BuilderLaws.{Satisfies}
+use Rattle.abstraction.proofs.UnrollLaws.{unroll-formed, unroll-grows, unroll-satisfies, unroll-zero}
 use Rattle.abstraction.proofs.GroupLaws.{ImagesCarry, image-carries, unroll-carries}
 
 module _ (clock : ℕ → ℕ → Ternary) (rows : List Row) where

@@ -2,8 +2,8 @@
 -- The rules and `addImage` stay shut: what stands above goes by the laws in `proofs/GateLaws` and `proofs/BuilderLaws`.
 -- Interface: complement, Image, makeAnd, makeXor, makeMux, Unrolling, addImage.
 -- Assumes nothing.
-use Prim.Native.Nat.{ℕ, zero, suc, _+_, _*_, _-_, _/_, _%_, min, max}
-use mathlib.Core.Bool.{Bool, cond, _||_}
+use Prim.Native.Nat.{ℕ, _+_, _*_, _-_, _/_, _%_, min, max}
+use mathlib.Core.Bool.{cond, _||_}
 use mathlib.Core.List.{List, [], _∷_, _++_}
 use lib.ListN.{length}
 use lib.Dec.{eqb}

@@ -3,7 +3,7 @@
 -- An output is given an image too, that of its literal, so every row has one.
 -- Interface: unrolledNetlist.
 -- Assumes nothing.
-use Prim.Native.Nat.{ℕ, zero, suc, _+_, _*_, _/_, _%_}
+use Prim.Native.Nat.{ℕ, zero, suc, _/_, _%_}
 use mathlib.Core.List.{List, [], _∷_, _++_, map}
 use lib.ListN.{length, getD}
 use Rattle.memory.specs.Lists.{joinBelow}

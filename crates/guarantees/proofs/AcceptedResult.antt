@@ -1,21 +1,20 @@
 -- A netlist in the folded netlist's shape passes questions 6 to 10.
 -- Assumes nothing.
 use Prim.Native.Nat.{ℕ, zero, suc, _<_, _≤_, _/_}
-use mathlib.Core.Path.{_≡_, refl, sym, ap, _∙_, subst}
-use mathlib.Core.Bool.{Bool, true, false}
+use mathlib.Core.Path.{_≡_, refl, sym, ap, subst}
+use mathlib.Core.Bool.{true}
 use mathlib.Core.List.{List, map}
 use native.Mathlib.Omega.{arith}
 use lib.ListN.{length, length-map, List·getD-map}
-use Rattle.memory.specs.Lists.{countIf}
 use Rattle.memory.proofs.ListLaws.{count-pos}
 use Rattle.netlist.specs.Limits.{mostPhases}
-use Rattle.netlist.specs.Rows.{Row, RowFields, constant, input, register, andGate, xorGate, muxGate, output, encodeRow, decodeRow, rowFromFields, rowAt, kindOf, labelOf, phaseOf, hasName, isOutput}
+use Rattle.netlist.specs.Rows.{Row, RowFields, constant, encodeRow, rowAt, kindOf, phaseOf, isOutput}
 use Rattle.netlist.specs.FileFormat.{fieldsAt}
-use Rattle.netlist.proofs.RowLaws.{SameName, decode-row, decode-rows, kind-le, named-alike}
-use Rattle.netlist.proofs.WellFormed.{ResetIn, NamesNode}
+use Rattle.netlist.proofs.RowLaws.{decode-row, decode-rows, kind-le, named-alike}
+use Rattle.netlist.proofs.WellFormed.{ResetIn}
 use Rattle.questions.specs.Questions.{noRefusal, kindRight, fieldsRight, labelIsNew, namesEarlier, literalsRight, rowsRefusal}
-use Rattle.questions.proofs.PlainWords.{KindWords, kindRight-iff, FieldsWords, fieldsRight-iff, labelIsNew-iff, literalsRight-iff, namesEarlier-iff}
-use Rattle.questions.proofs.AcceptedFiles.{RowRight, RowsRight, rows-yes}
+use Rattle.questions.proofs.PlainWords.{kindRight-iff, fieldsRight-iff, labelIsNew-iff, literalsRight-iff, namesEarlier-iff}
+use Rattle.questions.proofs.AcceptedFiles.{RowsRight, rows-yes}
 use Rattle.abstraction.proofs.ResultShape.{ResultShape}
 
 module _ (rows : List Row) (N : ℕ) (shape : ResultShape N rows) (few : N ≤ mostPhases) where

@@ -1,22 +1,20 @@
 -- The guarantee of an accepted fold, from the file's bytes and Fold's questions alone.
 -- Assumes nothing.
-use Prim.Native.Nat.{ℕ, _+_, _*_, _<_, _≤_, _/_, _^_}
-use mathlib.Core.Path.{_≡_, refl, sym, ap, _∙_, subst}
+use Prim.Native.Nat.{ℕ, _<_, _^_}
+use mathlib.Core.Path.{_≡_, refl, ap}
 use mathlib.Core.Bool.{Bool, true, false}
-use mathlib.Core.List.{List, map}
-use mathlib.Core.Option.{some}
+use mathlib.Core.List.{List}
 use native.Mathlib.Omega.{arith}
 use lib.ListN.{length}
 use Rattle.memory.specs.Fields.{IsBytes}
-use Rattle.netlist.specs.Limits.{mostRows, mostFoldedRows, foldResultBytes}
-use Rattle.netlist.specs.Rows.{Row, encodeRow, rowAt, kindOf, labelOf, phaseOf, hasName, isNamed}
-use Rattle.netlist.specs.FileFormat.{netlistOf, fileOf}
+use Rattle.netlist.specs.Rows.{Row, rowAt, labelOf, hasName}
+use Rattle.netlist.specs.FileFormat.{netlistOf}
 use Rattle.netlist.proofs.RowLaws.{unnamed}
 use Rattle.netlist.proofs.FileLaws.{file-length, file-labels}
-use Rattle.abstraction.specs.Fold.{FoldAnswer, foldFromLasso, foldNetlist}
+use Rattle.abstraction.specs.Fold.{FoldAnswer, foldFromLasso}
 use Rattle.abstraction.proofs.FoldLaws.{AnswerRight, fold-answers, answer-right}
 use Rattle.questions.specs.Questions.{noRefusal, foldRefusal}
-use Rattle.questions.proofs.AcceptedFiles.{FoldRight, fold-right, rows-accepted, file-checked}
+use Rattle.questions.proofs.AcceptedFiles.{fold-right, rows-accepted, file-checked}
 use Rattle.guarantees.specs.RoundTrips.{Writable}
 use Rattle.guarantees.specs.FoldGuarantee.{FoldGuarantee}
 use Rattle.guarantees.proofs.WriteThenRead.{writable-read, writable-accepted, writable-bytes}

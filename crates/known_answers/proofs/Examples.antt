@@ -5,7 +5,7 @@ use mathlib.Core.List.{List, [], _∷_, _++_, map}
 use lib.ListN.{take, drop, replicate}
 use Rattle.memory.specs.Lists.{tabulate}
 use Rattle.ternary.specs.Ternary.{Ternary}
-use Rattle.netlist.specs.Rows.{Row, constant, input, register, andGate, xorGate, muxGate, output}
+use Rattle.netlist.specs.Rows.{Row, constant, input, register, muxGate, output}
 use Rattle.netlist.specs.Simulation.{ternaryState}
 use Rattle.abstraction.specs.Fold.{FoldAnswer}
 

@@ -1,14 +1,14 @@
 -- The entries of the trainer's table that are marked as proved, and the printed sample, as one claim, by computation.
 -- Assumes nothing.
-use Prim.Native.Nat.{ℕ, _+_, _%_}
+use Prim.Native.Nat.{ℕ, _%_}
 use mathlib.Core.Path.{_≡_, refl}
-use mathlib.Core.List.{List, [], _∷_}
+use mathlib.Core.List.{[], _∷_}
 use mathlib.Core.Option.{some}
 use lib.ListN.{length, getD, replicate}
 use Rattle.memory.specs.Lists.{tabulate}
 use Rattle.ternary.specs.Ternary.{Ternary, lo, hi, X, not3, and3, xor3, mux3}
 use Rattle.netlist.specs.Limits.{foldResultBytes, foldWorkBytes, foldClockEntries}
-use Rattle.netlist.specs.Rows.{Row, xorGate}
+use Rattle.netlist.specs.Rows.{xorGate}
 use Rattle.netlist.specs.Simulation.{valuesUpTo, stepValues, runState}
 use Rattle.netlist.specs.FileFormat.{wordSum, fieldsOf, netlistOf, blockBody, checkWord, blockBytes, fileOf}
 use Rattle.lasso.specs.LassoSearch.{Lasso, earlierEqual, firstRepeat, findLasso}
@@ -17,8 +17,8 @@ use Rattle.lasso.specs.ClockEntries.{clockWord, bitsSet, clockEntry, clockEntri
 use Rattle.abstraction.specs.GateMaking.{existing, newRow, makeAnd, makeXor, makeMux, addImage}
 use Rattle.abstraction.specs.Unrolling.{unrollPhase, unrollPhases, phaseOutputs, unrolledNetlist}
 use Rattle.abstraction.specs.Compaction.{markSweep, markFixpoint, coneOfInfluence, newIndex, compactUpTo, compact}
-use Rattle.abstraction.specs.Fold.{foldWith, FoldAnswer, foldFromLasso, foldNetlist}
-use Rattle.questions.specs.Questions.{Refusal, noRefusal, blockQuestions, rowQuestions, rowsRefusal, fileRefusalWith, fileRefusal, originalRefusal, foldRefusal}
+use Rattle.abstraction.specs.Fold.{foldWith, foldFromLasso, foldNetlist}
+use Rattle.questions.specs.Questions.{noRefusal, blockQuestions, rowQuestions, rowsRefusal, fileRefusalWith, fileRefusal, originalRefusal, foldRefusal}
 use Rattle.known_answers.proofs.Examples.{zeroBody, zeroBlock, wire, rise, figure2, figure2States, sample, sampleFold}
 use Rattle.known_answers.proofs.LongFile.{longest, longest-length, longest-accepted}
 

@@ -1,26 +1,25 @@
 -- A register with a generator shows it at every step of the three-valued run, and so of every concrete run; the period is the least length of its generators.
 -- Assumes nothing.
 use Prim.Native.Nat.{ℕ, zero, suc, _+_, _-_, _<_, _≤_, _%_}
-use mathlib.Core.Path.{_≡_, refl, sym, ap, _∙_, subst}
-use mathlib.Core.Logic.{_↔_}
-use mathlib.Core.Bool.{Bool, true, false, cond, _&&_, false≢true}
+use mathlib.Core.Path.{_≡_, sym, ap, _∙_, subst}
+use mathlib.Core.Bool.{Bool, true, false, _&&_, false≢true}
 use mathlib.Core.List.{List}
 use native.Mathlib.Omega.{arith}
 use native.Mathlib.Decide.{decLt}
-use native.Mathlib.Nat.{add-mod, add-zero, mod-mod, mod-lt, mod-mod-of-dvd, dvd-of-mod-eq-zero, mod-eq-of-lt}
+use native.Mathlib.Nat.{add-mod, add-zero, mod-mod, mod-mod-of-dvd, dvd-of-mod-eq-zero, mod-eq-of-lt}
 use borrow.Author.Tests.{eqb-true, leb-true, le-leb, ltb-true}
 use lib.Dec.{eqb, ltb, leb}
 use lib.ListN.{length, getD, List·getD-eq-default}
 use Rattle.memory.specs.Lists.{firstFrom, tabulate}
 use Rattle.memory.proofs.TestLaws.{and-true, cond-case}
 use Rattle.memory.proofs.ListLaws.{allBelow-at, first-is, first-least, tabulate-length, tabulate-at}
-use Rattle.ternary.specs.Ternary.{Ternary, X, isKnown}
+use Rattle.ternary.specs.Ternary.{Ternary, isKnown}
 use Rattle.ternary.proofs.RuleLaws.{Covers, any, equal3-true}
 use Rattle.netlist.specs.Rows.{Row, rowAt, isRegister}
-use Rattle.netlist.specs.Simulation.{boolLogic, ternaryLogic, valueAt, runState, ternaryState}
+use Rattle.netlist.specs.Simulation.{boolLogic, ternaryLogic, valueAt, runState}
 use Rattle.netlist.proofs.TernarySoundness.{state-covers}
 use Rattle.lasso.specs.LassoSearch.{Lasso}
-use Rattle.lasso.specs.Generators.{stateValue, isGenerator, periodOf, periodsOf, isUsed, clockValue, IsPeriod}
+use Rattle.lasso.specs.Generators.{stateValue, isGenerator, periodOf, periodsOf, clockValue, IsPeriod}
 use Rattle.lasso.proofs.LassoLaws.{IsLasso, lasso-repeats}
 
 -- A row that is no register has no period.
@@ -98,10 +97,6 @@ module _ (rows : List Row) (z : Lasso) (is : IsLasso rows z) where
 
   pub period-none : (i : ℕ) → isRegister (rowAt rows i) ≡ true → periodOf rows z i ≡ 0 → (q : ℕ) → 0 < q → isGenerator rows z i q ≡ true → ⊥
   period-none i = period-answers i .1
-
-  pub periods-at : (i : ℕ) → i < length rows → getD (periodsOf rows z) i 0 ≡ periodOf rows z i
-  unfolding periodsOf
-  periods-at i h = tabulate-at (length rows) (periodOf rows z) i 0 h
 
   -- A period in the list generates its row.
   pub periods-generate : (i : ℕ) → 0 < getD (periodsOf rows z) i 0 → isGenerator rows z i (getD (periodsOf rows z) i 0) ≡ true

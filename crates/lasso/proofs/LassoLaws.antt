@@ -2,16 +2,15 @@
 -- Assumes nothing.
 use Prim.Native.Nat.{ℕ, zero, suc, _+_, _-_, _<_, _≤_}
 use mathlib.Core.Path.{_≡_, refl, sym, ap, _∙_, subst}
-use mathlib.Core.Logic.{_≢_, _↔_}
-use mathlib.Core.Bool.{Bool, true, false, _&&_, false≢true}
+use mathlib.Core.Logic.{_↔_}
+use mathlib.Core.Bool.{true, false≢true}
 use mathlib.Core.List.{List, [], _∷_, map}
 use mathlib.Core.Option.{Option, none, some, Option·some-injective}
 use native.Mathlib.Omega.{arith}
 use native.Mathlib.Decide.{decLt}
 use native.Mathlib.Nat.{add-suc, add-zero}
-use borrow.Author.Tests.{ltb-true, ltb-false, leb-true, leb-false, le-leb, lt-ltb, le-ltb}
-use lib.Dec.{ltb, leb}
-use Rattle.memory.specs.Lists.{firstFrom}
+use borrow.Author.Tests.{ltb-true, ltb-false, leb-true, leb-false}
+use lib.Dec.{ltb}
 use Rattle.memory.proofs.TestLaws.{and-true, cond-case}
 use Rattle.memory.proofs.ListLaws.{first-is, first-least}
 use Rattle.ternary.specs.Ternary.{Ternary, X, equal3}
@@ -48,22 +47,12 @@ module _ (rows : List Row) where
   pub all-differ : (m : ℕ) → ((j : ℕ) → 1 ≤ j → j < m → j ≤ earlierEqual rows j) → AllDiffer rows m
   all-differ m h a b l k e = omega (arith, h b (omega arith) k, earlier-least b a e)
 
-  pub differ-earlier : (m : ℕ) → AllDiffer rows m → (j : ℕ) → j < m → j ≤ earlierEqual rows j
-  differ-earlier m d j h = elim (decLt (earlierEqual rows j) j) [
-    | yes k ↦ absurd (d (earlierEqual rows j) j k h (earlier-equal j k))
-    | no k ↦ omega arith
-  ]
-
   -- The first repeat that is tried for: the states before it differ.
   pub repeat-differ : AllDiffer rows (firstRepeat rows)
   unfolding firstRepeat
   repeat-differ =
       all-differ (firstRepeat rows) (λ j a b.
       ltb-false (earlierEqual rows j) j (first-is 1 lastState (λ m. ltb (earlierEqual rows m) m) .before j a b))
-
-  pub repeat-least : (n m : ℕ) → n < m → ternaryState rows m ≡ ternaryState rows n → firstRepeat rows ≤ m
-  unfolding firstRepeat
-  repeat-least n m h e = first-least 1 lastState (λ m. ltb (earlierEqual rows m) m) m (omega arith) (lt-ltb (earlierEqual rows m) m (omega (arith, earlier-least m n (sym e))))
 
   repeat-earlier : firstRepeat rows ≤ lastState → earlierEqual rows (firstRepeat rows) < firstRepeat rows
   unfolding firstRepeat

@@ -2,12 +2,10 @@
 -- Assumes nothing.
 use Prim.Native.Nat.{ℕ, zero, suc, _<_, _≤_}
 use mathlib.Core.Path.{_≡_, refl}
-use mathlib.Core.Bool.{Bool, true, false, cond}
 use mathlib.Core.List.{List}
 use native.Mathlib.Omega.{arith}
 use native.Mathlib.Nat.{le-refl}
 use borrow.Author.Tests.{ltb-true, ltb-false}
-use lib.Dec.{ltb}
 use Rattle.memory.proofs.TestLaws.{cond-case, last-or}
 use Rattle.netlist.specs.Limits.{mostPhases}
 use Rattle.lasso.specs.Generators.{usedCount, isBetter, bestPhaseCount, phaseCount, IsBestCount}

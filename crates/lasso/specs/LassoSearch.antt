@@ -1,7 +1,7 @@
 -- The lasso of the three-valued run: the scope paper, "Values over time" and question 16.
 -- Interface: Lasso, findLasso; AllDiffer and FirstRepeat say the same in the paper's words.
 -- Assumes nothing.
-use Prim.Native.Nat.{ℕ, zero, suc, _+_, _-_, _<_}
+use Prim.Native.Nat.{ℕ, _-_, _<_}
 use mathlib.Core.Path.{_≡_}
 use mathlib.Core.Logic.{_≢_}
 use mathlib.Core.Bool.{Bool, true, false, cond, _&&_}

@@ -1,10 +1,10 @@
 -- The three-valued run covers every concrete run: what it knows holds.
 -- Assumes nothing.
 use Prim.Native.Nat.{ℕ, zero, suc, _/_, _%_}
-use mathlib.Core.Bool.{Bool, true, false}
+use mathlib.Core.Bool.{Bool}
 use mathlib.Core.List.{List, [], _∷_, _++_, map}
-use lib.ListN.{length, getD}
-use Rattle.ternary.specs.Ternary.{Ternary, lo, hi, X}
+use lib.ListN.{length}
+use Rattle.ternary.specs.Ternary.{Ternary, X}
 use Rattle.ternary.proofs.RuleLaws.{Covers, is-lo, any, not3-covers, and3-covers, xor3-covers, mux3-covers}
 use Rattle.netlist.specs.Rows.{Row, constant, input, register, andGate, xorGate, muxGate, output, rowAt}
 use Rattle.netlist.specs.Simulation.{boolLogic, ternaryLogic, complementIf, literalValue, rowValue, valueAt, resetValue, nextValue, valuesUpTo, stepValues, runState, ternaryState}

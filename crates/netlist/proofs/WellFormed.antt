@@ -1,12 +1,12 @@
 -- What the questions say of rows, as propositions: literals that name rows in range, phases, resets, and names that are unique.
 -- Assumes nothing.
 use Prim.Native.Nat.{ℕ, _<_, _≤_, _/_}
-use mathlib.Core.Path.{_≡_, sym, ap, _∙_}
-use mathlib.Core.Bool.{Bool, true, false}
+use mathlib.Core.Path.{_≡_}
+use mathlib.Core.Bool.{true, false}
 use mathlib.Core.List.{List}
 use lib.ListN.{length}
 use Rattle.netlist.specs.Limits.{mostOriginalRows}
-use Rattle.netlist.specs.Rows.{Row, constant, input, register, andGate, xorGate, muxGate, output, rowAt, onRegister, kindOf, labelOf, phaseOf, hasName, isOutput}
+use Rattle.netlist.specs.Rows.{Row, constant, input, register, andGate, xorGate, muxGate, output, rowAt, onRegister, phaseOf, hasName, isOutput}
 use Rattle.netlist.proofs.RowLaws.{SameName}
 
 -- The operands of a gate, and an output's literal, name rows below j.

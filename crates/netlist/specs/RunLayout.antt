@@ -1,10 +1,10 @@
 -- Run's values as bytes: the scope paper, "Operations and lent memory". One byte for each X register in row order; T times one byte for each input in row order; T times one byte for each output in row order.
 -- Interface: valuesFromBytes, runBytes.
 -- Assumes nothing.
-use Prim.Native.Nat.{ℕ, zero, suc, _+_, _*_}
+use Prim.Native.Nat.{ℕ, _+_, _*_}
 use mathlib.Core.Bool.{Bool, cond, not}
-use mathlib.Core.List.{List, [], _∷_, _++_, map}
-use lib.ListN.{length, getD, take}
+use mathlib.Core.List.{List, [], _∷_}
+use lib.ListN.{length, take}
 use lib.Dec.{eqb}
 use Rattle.memory.specs.Lists.{countIf, joinBelow}
 use Rattle.memory.specs.Fields.{byteAt}

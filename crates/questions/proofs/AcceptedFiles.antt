@@ -4,13 +4,13 @@
 use Prim.Native.Nat.{ℕ, _<_, _≤_, _/_}
 use mathlib.Core.Path.{_≡_, refl, sym, ap, _∙_, subst}
 use mathlib.Core.Logic.{_↔_}
-use mathlib.Core.Bool.{Bool, true, false, _&&_, _||_, false≢true}
+use mathlib.Core.Bool.{Bool, true, false, _&&_, false≢true}
 use mathlib.Core.List.{List, [], _∷_, map}
 use mathlib.Core.Option.{some}
 use native.Mathlib.Omega.{arith}
 use native.Mathlib.Decide.{decLt}
 use lib.ListN.{length, length-map, List·getD-map}
-use lib.Dec.{eqb, ltb, leb}
+use lib.Dec.{ltb, leb}
 use borrow.Author.Tests.{ltb-true, leb-true, lt-ltb, le-leb}
 use Rattle.memory.specs.Lists.{countIf}
 use Rattle.memory.proofs.ListLaws.{count-some}
@@ -334,25 +334,6 @@ module _ (file : List ℕ) (wish result work clocks : ℕ) where
       then question-of 15 _ (foldMemoryRight-iff result work clocks .1 (F .memory))
       then question-of 16 _ (hasLasso-iff (netlistOf file) .1 (F .lasso, F .found))
       then tt)
-
--- What the fold's theorems rest on.
-pub record FoldAccepted (file : List ℕ) (wish : ℕ) : Type 0 where
-  pub file-right : FileRight namesEarlier file
-  pub rows : AcceptedRows (netlistOf file)
-  pub wish-small : wish ≤ mostPhases
-  pub lasso : Lasso
-  pub found : findLasso (netlistOf file) ≡ some lasso
-
-pub fold-accepted : (file : List ℕ) (wish result work clocks : ℕ) → foldRefusal file wish result work clocks .number ≡ 0 → FoldAccepted file wish
-fold-accepted file wish result work clocks h =
-    let F = fold-right file wish result work clocks h in
-    record {
-      file-right = F .file-right;
-      rows = rows-accepted (netlistOf file) (file-checked file (F .file-right)) (F .original);
-      wish-small = F .wish-small;
-      lasso = F .lasso;
-      found = F .found;
-    }
 
 -- ---- 17 to 20: Run
 

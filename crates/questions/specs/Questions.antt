@@ -5,7 +5,7 @@
 use Prim.Native.Nat.{ℕ, zero, suc, _+_, _-_, _*_, _/_, _%_, _^_}
 use mathlib.Core.Bool.{Bool, true, false, cond, not, _&&_, _||_}
 use mathlib.Core.List.{List, [], _∷_, map}
-use mathlib.Core.Option.{Option, none, some}
+use mathlib.Core.Option.{none, some}
 use lib.ListN.{length}
 use lib.Dec.{eqb, ltb, leb}
 use Rattle.memory.specs.Lists.{allBelow, firstFrom, countIf}
@@ -13,7 +13,7 @@ use Rattle.memory.specs.Fields.{byteAt}
 use Rattle.netlist.specs.Limits.{mostFileBytes, mostPhases, mostOriginalRows, mostOriginalRegisters, foldResultBytes, foldWorkBytes, foldClockEntries, mostSteps, runWorkBytes}
 use Rattle.netlist.specs.Rows.{Row, constant, input, register, andGate, xorGate, muxGate, output, RowFields, decodeRow, rowAt, kindOf, labelOf, phaseOf, hasName, isNamed, isInput, isRegister, isUnknown, isOutput}
 use Rattle.netlist.specs.FileFormat.{lastMark, wordSum, rightSum, blockCount, fieldsOf, fieldsAt, netlistOf}
-use Rattle.lasso.specs.LassoSearch.{Lasso, findLasso}
+use Rattle.lasso.specs.LassoSearch.{findLasso}
 
 -- A refusal; number 0 is none, and its place is 0.
 pub record Refusal : Type 0 where

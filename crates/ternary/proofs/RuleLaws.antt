@@ -5,8 +5,7 @@ use mathlib.Core.Path.{_≡_, refl, sym, ap, _∙_}
 use mathlib.Core.Bool.{Bool, true, false, cond, not, _&&_, false≢true}
 use native.Mathlib.Omega.{arith}
 use borrow.Author.Tests.{eqb-true, eq-eqb}
-use lib.Dec.{eqb}
-use Rattle.ternary.specs.Ternary.{Ternary, lo, hi, X, not3, and3, xor3, mux3, codeOf, valueOf, equal3, isKnown}
+use Rattle.ternary.specs.Ternary.{Ternary, lo, hi, X, not3, and3, xor3, mux3, codeOf, valueOf, equal3}
 
 -- The value b is among those that q stands for.
 pub data Covers : Ternary → Bool → Type 0 where
