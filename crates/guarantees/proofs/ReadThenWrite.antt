@@ -5,14 +5,14 @@ use mathlib.Core.Path.{_≡_, sym, ap, _∙_, subst}
 use mathlib.Core.List.{List, map}
 use native.Mathlib.Omega.{arith}
 use native.Mathlib.Decide.{decLt}
-use lib.ListN.{length, length-map, List·getD-map}
+use lib.ListN.{length, length-map, List·getD-map, List·getD-eq-default}
 use lib.Seq.{ext-getD}
 use Rattle.memory.specs.Fields.{IsBytes, byteAt, u32At, u32Bytes}
 use Rattle.memory.proofs.FieldLaws.{u32-small, u32-write}
 use Rattle.netlist.specs.Limits.{mostRows}
 use Rattle.netlist.specs.Rows.{Row, RowFields, encodeRow, decodeRow, constant, rowAt}
-use Rattle.netlist.specs.FileFormat.{wordSum, rightSum, blockCount, blockRows, blocksFor, blockBytes, rowOffset, readFields, fieldBytes, rowBytes, fieldsOf, fieldsAt, netlistOf, fileOf}
-use Rattle.netlist.proofs.FileLaws.{sum-suc, sum-cong, fields-write, block-head, block-row, block-unused, block-check, check-word, check-small, block-sum, part-small, part-length, part-at, file-length, file-at, read-length, read-at, file-labels}
+use Rattle.netlist.specs.FileFormat.{wordSum, rightSum, blockCount, blockAt, blockRows, blocksFor, blockBytes, rowOffset, readFields, fieldBytes, rowBytes, fieldsOf, fieldsAt, netlistOf, fileOf}
+use Rattle.netlist.proofs.FileLaws.{sum-suc, sum-cong, block-at, block-size, fields-write, block-head, block-row, block-unused, block-check, check-word, check-small, block-sum, part-small, part-length, part-at, file-length, file-at, read-length, read-at, file-labels}
 use Rattle.questions.specs.Questions.{namesEarlier, fileRefusal}
 use Rattle.questions.proofs.AcceptedFiles.{RowsRight, rows-fields, rows-yes, FileRight, file-right, file-rows}
 use Rattle.guarantees.specs.RoundTrips.{RoundTrips}
@@ -36,10 +36,16 @@ module _ (file : List ℕ) (ok : fileRefusal file .number ≡ 0) where
   right : FileRight namesEarlier file
   right = file-right namesEarlier file ok
 
+  -- A byte of block B, in the file.
+  in-file : (B o : ℕ) → o < 512 → byteAt (blockAt file B) o ≡ byteAt file (512 * B + o)
+  in-file = block-at file
+
   last-count : (1 ≤ byteAt file (512 * (K - 1) + 2)) × (byteAt file (512 * (K - 1) + 2) ≤ 63)
   last-count =
       let s = right .size .some-blocks in
-      right .blocks (K - 1) (omega arith) .count-last (omega arith)
+      let c = right .blocks (K - 1) (omega arith) .count-last (omega arith) in
+      let e = in-file (K - 1) 2 (omega arith) in
+      (omega arith, omega arith)
 
   -- How many rows an accepted file has, and they take its blocks.
   pub rows-of-file : (1 ≤ length (netlistOf file)) × (length (netlistOf file) ≤ mostRows) × (blocksFor (length (netlistOf file)) ≡ blockCount file)
@@ -49,7 +55,7 @@ module _ (file : List ℕ) (ok : fileRefusal file .number ≡ 0) where
       let n = read-length file in
       (omega arith, omega arith, omega arith)
 
-  part-is : (B : ℕ) → B < K → length (blockRows rows B) ≡ byteAt file (512 * B + 2)
+  part-is : (B : ℕ) → B < K → length (blockRows rows B) ≡ byteAt (blockAt file B) 2
   part-is B h = part-length rows B ∙ elim (decLt (suc B) K) [
     | yes l ↦
         (let c = right .blocks B h .count-other (λ e. omega arith) in
@@ -60,7 +66,7 @@ module _ (file : List ℕ) (ok : fileRefusal file .number ≡ 0) where
         (let e : K - 1 ≡ B = omega arith in
         let n = read-length file in
         let t = right .blocks B h .count-last (omega arith) in
-        let w : byteAt file (512 * (K - 1) + 2) ≡ byteAt file (512 * B + 2) = ap (λ (x : ℕ). byteAt file (512 * x + 2)) e in
+        let w : byteAt file (512 * (K - 1) + 2) ≡ byteAt (blockAt file B) 2 = ap (λ (x : ℕ). byteAt file (512 * x + 2)) e ∙ sym (in-file B 2 (omega arith)) in
         omega arith)
   ]
 
@@ -73,15 +79,21 @@ module _ (file : List ℕ) (ok : fileRefusal file .number ≡ 0) where
 
   module _ (bytes : IsBytes file) where
     module _ (B : ℕ) (h : B < K) where
-      -- Block B, written afresh, and where it stands in the file.
+      -- Block B, written afresh, and as it stands in the file.
       abbrev part : List Row
       part = blockRows rows B
 
       abbrev block : List ℕ
       block = blockBytes K B part
 
+      abbrev stored : List ℕ
+      stored = blockAt file B
+
+      stored-length : length stored ≡ 512
+      stored-length = let s = right .size .whole in block-size file B (omega arith)
+
       abbrev Same : ℕ → Type 0
-      Same o = byteAt block o ≡ byteAt file (512 * B + o)
+      Same o = byteAt block o ≡ byteAt stored o
 
       row-byte : (j d : ℕ) → j < length part → d < 8 → Same (4 + (8 * j + d))
       row-byte j d l m =
@@ -92,15 +104,16 @@ module _ (file : List ℕ) (ok : fileRefusal file .number ≡ 0) where
           ∙ ap (λ (w : RowFields). byteAt (fieldBytes w) d) (row-same (63 * B + j) (omega (arith, part-length rows B)))
           ∙ fields-write file bytes (63 * B + j) d m
           ∙ ap (byteAt file) e
+          ∙ sym (in-file B (4 + (8 * j + d)) (omega arith))
 
       unused-byte : (i : ℕ) → i < 504 - 8 * length part → Same (4 + (8 * length part + i))
       unused-byte i l =
           let p = part-is B h in
-          let e : 512 * B + 4 + 8 * byteAt file (512 * B + 2) + i ≡ 512 * B + (4 + (8 * length part + i)) = omega arith in
-          block-unused K B part (part-small rows B) i l ∙ sym (right .blocks B h .unused i (omega arith)) ∙ ap (byteAt file) e
+          let e : 4 + 8 * byteAt stored 2 + i ≡ 4 + (8 * length part + i) = omega arith in
+          block-unused K B part (part-small rows B) i l ∙ sym (right .blocks B h .unused i (omega arith)) ∙ ap (byteAt stored) e
 
       body-byte : (o : ℕ) → o < 508 → Same o
-      body-byte zero l = let e : 512 * B ≡ 512 * B + 0 = omega arith in block-head K B part (part-small rows B) .0 ∙ sym (right .blocks B h .mark) ∙ ap (byteAt file) e
+      body-byte zero l = block-head K B part (part-small rows B) .0 ∙ sym (right .blocks B h .mark)
       body-byte (suc zero) l = block-head K B part (part-small rows B) .1 ∙ sym (right .blocks B h .number)
       body-byte (suc (suc zero)) l = block-head K B part (part-small rows B) .2 ∙ part-is B h
       body-byte (suc (suc (suc zero))) l = block-head K B part (part-small rows B) .3 ∙ sym (right .blocks B h .zero-byte)
@@ -111,25 +124,29 @@ module _ (file : List ℕ) (ok : fileRefusal file .number ≡ 0) where
             subst Same e (unused-byte (y - 8 * length part) (omega arith)))
       ]
 
+      stored-bytes : IsBytes stored
+      stored-bytes o = elim (decLt o 512) [
+        | yes l ↦ rw (in-file B o l) (bytes (512 * B + o))
+        | no l ↦ (let e : byteAt stored o ≡ 0 = List·getD-eq-default stored 0 {n = o} (omega (arith, stored-length)) in omega (arith, e))
+      ]
+
       -- Both checks make the same sum right.
-      check-same : u32At file (512 * B + 508) ≡ u32At block 508
+      check-same : u32At stored 508 ≡ u32At block 508
       check-same =
-          let e : wordSum file (512 * B) 127 ≡ wordSum block 0 127 = sum-cong file block (512 * B) 0 127 (λ i l. let q : i ≡ 0 + i = omega arith in sym (body-byte i (omega arith)) ∙ ap (byteAt block) q) in
-          let p : (wordSum file (512 * B) 127 + u32At file (512 * B + 508)) % 2 ^ 32 ≡ rightSum = ap (λ (n : ℕ). n % 2 ^ 32) (sym (sum-suc file (512 * B) 127)) ∙ right .blocks B h .sum in
-          let q : (wordSum block 0 127 + u32At block 508) % 2 ^ 32 ≡ rightSum = ap (λ (n : ℕ). n % 2 ^ 32) (sym (sum-suc block 0 127)) ∙ block-sum K B part (part-small rows B) in
-          same (wordSum file (512 * B) 127) (wordSum block 0 127) (u32At file (512 * B + 508)) (u32At block 508) e
-          (u32-small file (512 * B + 508) bytes) (omega (arith, check-word K B part (part-small rows B), check-small K B part (part-small rows B))) p q
+          let e : wordSum stored 127 ≡ wordSum block 127 = sum-cong stored block 127 (λ i l. sym (body-byte i (omega arith))) in
+          let p : (wordSum stored 127 + u32At stored 508) % 2 ^ 32 ≡ rightSum = ap (λ (n : ℕ). n % 2 ^ 32) (sym (sum-suc stored 127)) ∙ right .blocks B h .sum in
+          let q : (wordSum block 127 + u32At block 508) % 2 ^ 32 ≡ rightSum = ap (λ (n : ℕ). n % 2 ^ 32) (sym (sum-suc block 127)) ∙ block-sum K B part (part-small rows B) in
+          same (wordSum stored 127) (wordSum block 127) (u32At stored 508) (u32At block 508) e
+          (u32-small stored 508 stored-bytes) (omega (arith, check-word K B part (part-small rows B), check-small K B part (part-small rows B))) p q
         where
           same : (S T u w : ℕ) → S ≡ T → u < 2 ^ 32 → w < 2 ^ 32 → (S + u) % 2 ^ 32 ≡ rightSum → (T + w) % 2 ^ 32 ≡ rightSum → u ≡ w
           same S T u w e a b p q = omega arith
 
       check-byte : (d : ℕ) → d < 4 → Same (508 + d)
       check-byte d l =
-          let e : 512 * B + 508 + d ≡ 512 * B + (508 + d) = omega arith in
           block-check K B part (part-small rows B) d
           ∙ ap (λ (n : ℕ). byteAt (u32Bytes n) d) (sym (check-word K B part (part-small rows B)) ∙ sym check-same)
-          ∙ u32-write file (512 * B + 508) bytes d l
-          ∙ ap (byteAt file) e
+          ∙ u32-write stored 508 stored-bytes d l
 
       block-byte : (o : ℕ) → o < 512 → Same o
       block-byte o l = elim (decLt o 508) [
@@ -149,6 +166,7 @@ module _ (file : List ℕ) (ok : fileRefusal file .number ≡ 0) where
         ∙ file-at rows (x / 512) (x % 512) (omega arith) (omega arith)
         ∙ ap (λ (y : ℕ). byteAt (blockBytes y (x / 512) (blockRows rows (x / 512))) (x % 512)) k
         ∙ block-byte (x / 512) b (x % 512) (omega arith)
+        ∙ in-file (x / 512) (x % 512) (omega arith)
         ∙ ap (byteAt file) (sym e))
 
 pub write-read : (file : List ℕ) → IsBytes file → fileRefusal file .number ≡ 0 → fileOf (netlistOf file) ≡ file

@@ -1,7 +1,7 @@
 -- A netlist written and read again is the same netlist, and its file is accepted.
 -- Assumes nothing.
-use Prim.Native.Nat.{ℕ, suc, _+_, _*_, _<_, _≤_, _/_, _%_, _^_}
-use mathlib.Core.Path.{_≡_, refl, sym, ap, _∙_}
+use Prim.Native.Nat.{ℕ, suc, _+_, _*_, _<_, _≤_, _/_, _^_}
+use mathlib.Core.Path.{_≡_, ap, _∙_}
 use mathlib.Core.Bool.{true}
 use mathlib.Core.List.{List, map}
 use native.Mathlib.Omega.{arith}
@@ -10,10 +10,10 @@ use lib.ListN.{length, length-map}
 use Rattle.memory.specs.Fields.{IsBytes, byteAt}
 use Rattle.netlist.specs.Limits.{mostRows, mostPhases}
 use Rattle.netlist.specs.Rows.{Row, constant, input, register, andGate, xorGate, muxGate, output, encodeRow, rowAt, labelOf, phaseOf}
-use Rattle.netlist.specs.FileFormat.{lastMark, blockCount, blockRows, blocksFor, fieldsOf, netlistOf, fileOf}
+use Rattle.netlist.specs.FileFormat.{blockCount, blockAt, blockRows, blocksFor, fieldsOf, netlistOf, fileOf}
 use Rattle.netlist.proofs.RowLaws.{decode-rows, EachRow}
 use Rattle.netlist.proofs.WellFormed.{ResetIn, NamesNode, OnLiterals}
-use Rattle.netlist.proofs.FileLaws.{FieldsFit, writtenBlock, sum-cong, block-head, block-unused, block-sum, part-small, part-length, file-length, file-blocks, file-at, file-count, fields-back, read-back, file-is-bytes}
+use Rattle.netlist.proofs.FileLaws.{FieldsFit, writtenBlock, block-head, block-unused, block-sum, part-small, part-length, file-length, file-blocks, block-back, fields-back, read-back, file-is-bytes}
 use Rattle.questions.specs.Questions.{noRefusal, namesEarlier, literalsRight, fileRefusal}
 use Rattle.questions.proofs.PlainWords.{LengthWords, BlockWords, literalsRight-iff, namesEarlier-iff}
 use Rattle.questions.proofs.AcceptedFiles.{RowsRight, rows-right, file-yes, CheckedRows, rows-checked}
@@ -26,30 +26,31 @@ module _ (rs : List Row) (some-rows : 1 ≤ length rs) (few : length rs ≤ most
   size-is-right = let n = file-length rs in record { whole = omega arith; some-blocks = omega arith; few-blocks = omega arith }
 
   module _ (B : ℕ) (h : B < blocksFor (length rs)) where
-    byte-of : (o x : ℕ) → x ≡ 512 * B + o → o < 512 → byteAt (fileOf rs) x ≡ byteAt (writtenBlock rs B) o
-    byte-of o x q l = ap (byteAt (fileOf rs)) q ∙ file-at rs B o h l
-
-    not-last : ¬ (suc B ≡ blockCount (fileOf rs)) → suc B < blocksFor (length rs)
-    not-last n = elim (decLt (suc B) (blocksFor (length rs))) [ yes l ↦ l | no l ↦ absurd (n (omega (arith, file-blocks rs))) ]
-
-    block-is-right : BlockWords (fileOf rs) B
-    block-is-right =
+    written-is-right : BlockWords (blocksFor (length rs)) B (writtenBlock rs B)
+    written-is-right =
         let k = blocksFor (length rs) in
         let part = blockRows rs B in
         let small = part-small rs B in
         let head = block-head k B part small in
-        let e = file-blocks rs in
-        let c = file-count rs B h in
         let p = part-length rs B in
+        let c : byteAt (writtenBlock rs B) 2 ≡ length part = head .2 in
         record {
-          sum = ap (λ (n : ℕ). n % 2 ^ 32) (sum-cong (fileOf rs) (writtenBlock rs B) (512 * B) 0 128 (λ i l. let q : i ≡ 0 + i = omega arith in file-at rs B i h (omega arith) ∙ ap (byteAt (writtenBlock rs B)) q)) ∙ block-sum k B part small;
-          mark = byte-of 0 (512 * B) (omega arith) (omega arith) ∙ head .0 ∙ ap (λ (n : ℕ). lastMark n B) (sym e);
-          number = byte-of 1 (512 * B + 1) refl (omega arith) ∙ head .1;
-          zero-byte = byte-of 3 (512 * B + 3) refl (omega arith) ∙ head .3;
+          sum = block-sum k B part small;
+          mark = head .0;
+          number = head .1;
+          zero-byte = head .3;
           count-last = λ l. (omega arith, omega arith);
           count-other = λ l. (let m : suc B < k = not-last l in omega arith);
-          unused = λ i l. byte-of (4 + (8 * length part + i)) (512 * B + 4 + 8 * byteAt (fileOf rs) (512 * B + 2) + i) (omega arith) (omega arith) ∙ block-unused k B part small i (omega arith);
+          unused = λ i l.
+              let e : 4 + 8 * byteAt (writtenBlock rs B) 2 + i ≡ 4 + (8 * length part + i) = omega arith in
+              ap (byteAt (writtenBlock rs B)) e ∙ block-unused k B part small i (omega arith);
         }
+      where
+        not-last : ¬ (suc B ≡ blocksFor (length rs)) → suc B < blocksFor (length rs)
+        not-last n = elim (decLt (suc B) (blocksFor (length rs))) [ yes l ↦ l | no l ↦ absurd (n (omega arith)) ]
+
+    block-is-right : BlockWords (blockCount (fileOf rs)) B (blockAt (fileOf rs) B)
+    block-is-right = rw (file-blocks rs, block-back rs B h) written-is-right
 
   -- Rows that fit and pass questions 6 to 10 are those of an accepted file.
   pub file-accepted : EachRow (λ r. FieldsFit (encodeRow r)) rs → RowsRight namesEarlier (map encodeRow rs) → fileRefusal (fileOf rs) ≡ noRefusal

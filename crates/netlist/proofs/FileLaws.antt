@@ -16,7 +16,7 @@ use Rattle.memory.proofs.ListLaws.{join-length, join-at, tabulate-length, tabul
 use Rattle.memory.proofs.FieldLaws.{u16-small, u16-read, u16-write, u32-read, bytes-cons, bytes-append, bytes-join, bytes-zeros, u16-is-bytes, u32-is-bytes}
 use Rattle.netlist.specs.Limits.{mostRows}
 use Rattle.netlist.specs.Rows.{Row, RowFields, encodeRow, decodeRow, rowFromFields, constant, rowAt, labelOf}
-use Rattle.netlist.specs.FileFormat.{lastMark, wordSum, blockCount, rowOffset, readFields, rowCount, fieldsOf, fieldsAt, netlistOf, fieldBytes, rowBytes, blockBody, checkWord, blockBytes, blockRows, blocksFor, fileOf}
+use Rattle.netlist.specs.FileFormat.{lastMark, wordSum, blockCount, blockAt, rowOffset, readFields, rowCount, fieldsOf, fieldsAt, netlistOf, fieldBytes, rowBytes, blockBody, checkWord, blockBytes, blockRows, blocksFor, fileOf}
 use Rattle.netlist.proofs.RowLaws.{decode-rows, kind-le, EachRow}
 
 -- ---- byte 0
@@ -29,25 +29,31 @@ mark-other k B h = rw (ne-eqb (suc B) k (λ e. omega arith))
 
 -- ---- sums
 
-pub sum-suc : (f : List ℕ) (at n : ℕ) → wordSum f at (suc n) ≡ wordSum f at n + u32At f (at + 4 * n)
+pub sum-suc : (b : List ℕ) (n : ℕ) → wordSum b (suc n) ≡ wordSum b n + u32At b (4 * n)
 unfolding wordSum
-sum-suc f at n = refl
+sum-suc b n = refl
 
 -- A sum depends on its bytes alone.
-pub sum-cong : (f g : List ℕ) (a b n : ℕ) → ((i : ℕ) → i < 4 * n → byteAt f (a + i) ≡ byteAt g (b + i)) → wordSum f a n ≡ wordSum g b n
+pub sum-cong : (b c : List ℕ) (n : ℕ) → ((i : ℕ) → i < 4 * n → byteAt b i ≡ byteAt c i) → wordSum b n ≡ wordSum c n
 unfolding wordSum
-sum-cong f g a b zero e = refl
-sum-cong f g a b (suc n) e =
-    let byte : (d x y : ℕ) → x ≡ a + (4 * n + d) → y ≡ b + (4 * n + d) → d < 4 → byteAt f x ≡ byteAt g y =
-    λ d x y p q l. ap (byteAt f) p ∙ e (4 * n + d) (omega arith) ∙ ap (byteAt g) (sym q) in
+sum-cong b c zero e = refl
+sum-cong b c (suc n) e =
     omega (
       arith,
-      sum-cong f g a b n (λ i h. e i (omega arith)),
-      byte 0 (a + 4 * n) (b + 4 * n) (omega arith) (omega arith) (omega arith),
-      byte 1 (a + 4 * n + 1) (b + 4 * n + 1) (omega arith) (omega arith) (omega arith),
-      byte 2 (a + 4 * n + 2) (b + 4 * n + 2) (omega arith) (omega arith) (omega arith),
-      byte 3 (a + 4 * n + 2 + 1) (b + 4 * n + 2 + 1) (omega arith) (omega arith) (omega arith),
+      sum-cong b c n (λ i h. e i (omega arith)),
+      e (4 * n) (omega arith),
+      e (4 * n + 1) (omega arith),
+      e (4 * n + 2) (omega arith),
+      e (4 * n + 2 + 1) (omega arith),
     )
+
+-- ---- block B of a file
+
+pub block-at : (f : List ℕ) (B o : ℕ) → o < 512 → byteAt (blockAt f B) o ≡ byteAt f (512 * B + o)
+block-at f B o h = getD-take 512 (drop (512 * B) f) o 0 h ∙ getD-drop (512 * B) f o 0
+
+pub block-size : (f : List ℕ) (B : ℕ) → 512 * B + 512 ≤ length f → length (blockAt f B) ≡ 512
+block-size f B h = simp (length-take, length-drop) (omega arith)
 
 -- ---- a row
 
@@ -155,12 +161,12 @@ module _ (k B : ℕ) (rs : List Row) (small : length rs ≤ 63) where
   check-word = u32-read (blockBytes k B rs) 508 (checkWord (blockBody k B rs)) check-small (λ d l. block-check d)
 
   -- The sum of a block's words is right.
-  pub block-sum : wordSum (blockBytes k B rs) 0 128 % 2 ^ 32 ≡ 2 ^ 32 - 1
+  pub block-sum : wordSum (blockBytes k B rs) 128 % 2 ^ 32 ≡ 2 ^ 32 - 1
   unfolding checkWord
   block-sum =
-      let S = wordSum (blockBody k B rs) 0 127 in
-      let e : wordSum (blockBytes k B rs) 0 127 ≡ S = sum-cong (blockBytes k B rs) (blockBody k B rs) 0 0 127 (λ i h. block-body (0 + i) (omega arith)) in
-      ap (λ (n : ℕ). n % 2 ^ 32) (sum-suc (blockBytes k B rs) 0 127 ∙ ap₂ _+_ e check-word) ∙ right S (checkWord (blockBody k B rs)) refl
+      let S = wordSum (blockBody k B rs) 127 in
+      let e : wordSum (blockBytes k B rs) 127 ≡ S = sum-cong (blockBytes k B rs) (blockBody k B rs) 127 (λ i h. block-body i (omega arith)) in
+      ap (λ (n : ℕ). n % 2 ^ 32) (sum-suc (blockBytes k B rs) 127 ∙ ap₂ _+_ e check-word) ∙ right S (checkWord (blockBody k B rs)) refl
     where
       right : (S c : ℕ) → c ≡ (2 ^ 32 - 1 - S % 2 ^ 32) % 2 ^ 32 → (S + c) % 2 ^ 32 ≡ 2 ^ 32 - 1
       right S c e = omega arith
@@ -212,6 +218,12 @@ module _ (rs : List Row) where
   pub file-at : (B o : ℕ) → B < blocksFor (length rs) → o < 512 → byteAt (fileOf rs) (512 * B + o) ≡ byteAt (writtenBlock B) o
   unfolding fileOf
   file-at B o h l = join-at 512 writtenBlock k each-512 B o 0 h l
+
+  -- Block B, read.
+  pub block-back : (B : ℕ) → B < blocksFor (length rs) → blockAt (fileOf rs) B ≡ writtenBlock B
+  block-back B h =
+      let n = block-size (fileOf rs) B (omega (arith, file-length)) in
+      ext-getD 0 (blockAt (fileOf rs) B) (writtenBlock B) (n ∙ sym (each-512 B h)) (λ o l. block-at (fileOf rs) B o (omega arith) ∙ file-at B o h (omega arith))
 
   pub file-count : (B : ℕ) → B < blocksFor (length rs) → byteAt (fileOf rs) (512 * B + 2) ≡ min 63 (length rs - 63 * B)
   file-count B h = file-at B 2 h (omega arith) ∙ block-head k B (blockRows rs B) (part-small rs B) .2 ∙ part-length rs B

@@ -1,5 +1,5 @@
 -- The netlist file: the scope paper, "The netlist file". Rows from bytes, and bytes from rows; the questions stand in crate `questions`.
--- Interface: blockCount, rowOffset, fieldsOf, netlistOf (reading); fileOf (writing).
+-- Interface: blockCount, blockAt, rowPart, rowOffset, fieldsOf, netlistOf (reading); fileOf (writing).
 -- Assumes nothing.
 use Prim.Native.Nat.{ℕ, zero, suc, _+_, _-_, _*_, _/_, _%_, _^_}
 use mathlib.Core.Bool.{cond}
@@ -14,10 +14,10 @@ use Rattle.netlist.specs.Rows.{Row, RowFields, encodeRow, decodeRow, con
 abbrev pub lastMark : ℕ → ℕ → ℕ
 lastMark k B = cond (eqb (suc B) k) 2 1
 
--- The sum of n words of 32 bits from the byte `at` on, and what it must be modulo 2 to the 32.
-unfoldable pub wordSum : List ℕ → ℕ → ℕ → ℕ
-wordSum f at zero = zero
-wordSum f at (suc n) = wordSum f at n + u32At f (at + 4 * n)
+-- The sum of the first n words of 32 bits, and what a block's must be modulo 2 to the 32.
+unfoldable pub wordSum : List ℕ → ℕ → ℕ
+wordSum b zero = zero
+wordSum b (suc n) = wordSum b n + u32At b (4 * n)
 
 abbrev pub rightSum : ℕ
 rightSum = 4294967295
@@ -26,6 +26,13 @@ rightSum = 4294967295
 
 abbrev pub blockCount : List ℕ → ℕ
 blockCount f = length f / 512
+
+-- Block number B is the 512 bytes from 512 × B; its row part is the 504 bytes after its head.
+abbrev pub blockAt : List ℕ → ℕ → List ℕ
+blockAt f B = take 512 (drop (512 * B) f)
+
+abbrev pub rowPart : List ℕ → ℕ → List ℕ
+rowPart f B = take 504 (drop 4 (blockAt f B))
 
 -- Where row i begins: 63 places of 8 bytes after the 4 bytes of a block's head.
 abbrev pub rowOffset : ℕ → ℕ
@@ -64,7 +71,7 @@ blockBody k B rs = lastMark k B ∷ B ∷ length rs ∷ 0 ∷ joinBelow (length 
 
 -- The check that makes the block's sum right.
 unfoldable pub checkWord : List ℕ → ℕ
-checkWord body = (rightSum - wordSum body 0 127 % 2 ^ 32) % 2 ^ 32
+checkWord body = (rightSum - wordSum body 127 % 2 ^ 32) % 2 ^ 32
 
 unfoldable pub blockBytes : ℕ → ℕ → List Row → List ℕ
 blockBytes k B rs = let body = blockBody k B rs in body ++ u32Bytes (checkWord body)

@@ -16,7 +16,7 @@ use Rattle.memory.specs.Lists.{countIf}
 use Rattle.memory.proofs.ListLaws.{count-some}
 use Rattle.netlist.specs.Limits.{mostPhases, mostOriginalRows, mostOriginalRegisters, mostSteps}
 use Rattle.netlist.specs.Rows.{Row, constant, input, register, andGate, xorGate, muxGate, output, RowFields, encodeRow, rowFromFields, decodeRow, rowAt, phaseOf, hasName, isRegister, isOutput}
-use Rattle.netlist.specs.FileFormat.{blockCount, fieldsOf, fieldsAt, netlistOf}
+use Rattle.netlist.specs.FileFormat.{blockCount, blockAt, fieldsOf, fieldsAt, netlistOf}
 use Rattle.netlist.proofs.RowLaws.{SameName, output-is, named-alike}
 use Rattle.netlist.proofs.WellFormed.{OperandsBelow, Ordered, NextBelow, ResetIn, NamesNode, OnLiterals, NamesUnique, AcceptedRows}
 use Rattle.lasso.specs.LassoSearch.{Lasso, findLasso}
@@ -80,48 +80,52 @@ module _ (operand : Operand) (ws : List RowFields) where
 
 -- ---- 1 to 10: the file
 
-pub block-right : (f : List ℕ) (B : ℕ) → blockQuestions f B ≡ 0 → BlockWords f B
-unfolding blockQuestions
-block-right f B h =
-    let s = passed (sumRight f B) 1 _ h in
-    let d = passed (headRight f B) 2 _ (s .1) in
-    let c = passed (countRight f B) 3 _ (d .1) in
-    let head = headRight-iff f B .0 (d .0) in
-    let count = countRight-iff f B .0 (c .0) in
-    record {
-      sum = sumRight-iff f B .0 (s .0);
-      mark = head .0 .0;
-      number = head .0 .1;
-      zero-byte = head .1;
-      count-last = count .0;
-      count-other = count .1;
-      unused = unusedRight-iff f B .0 (passed (unusedRight f B) 4 _ (c .1) .0);
-    }
+module _ (k B : ℕ) (b : List ℕ) where
+  pub block-right : blockQuestions k B b ≡ 0 → BlockWords k B b
+  unfolding blockQuestions
+  block-right h =
+      let s = passed (sumRight b) 1 _ h in
+      let d = passed (headRight k B b) 2 _ (s .1) in
+      let c = passed (countRight k B b) 3 _ (d .1) in
+      let head = headRight-iff k B b .0 (d .0) in
+      let count = countRight-iff k B b .0 (c .0) in
+      record {
+        sum = sumRight-iff k B b .0 (s .0);
+        mark = head .0 .0;
+        number = head .0 .1;
+        zero-byte = head .1;
+        count-last = count .0;
+        count-other = count .1;
+        unused = unusedRight-iff k B b .0 (passed (unusedRight b) 4 _ (c .1) .0);
+      }
 
-pub block-yes : (f : List ℕ) (B : ℕ) → BlockWords f B → blockQuestions f B ≡ 0
-unfolding blockQuestions
-block-yes f B w =
-    passed-of _ 2 _ (sumRight-iff f B .1 (w .sum))
-    (passed-of _ 3 _ (headRight-iff f B .1 ((w .mark, w .number), w .zero-byte))
-    (passed-of _ 4 _ (countRight-iff f B .1 (w .count-last, w .count-other)) (passed-of _ 5 _ (unusedRight-iff f B .1 (w .unused)) refl)))
+  pub block-yes : BlockWords k B b → blockQuestions k B b ≡ 0
+  unfolding blockQuestions
+  block-yes w =
+      passed-of _ 2 _ (sumRight-iff k B b .1 (w .sum))
+      (passed-of _ 3 _ (headRight-iff k B b .1 ((w .mark, w .number), w .zero-byte))
+      (passed-of _ 4 _ (countRight-iff k B b .1 (w .count-last, w .count-other)) (passed-of _ 5 _ (unusedRight-iff k B b .1 (w .unused)) refl)))
 
 -- Questions 1 to 10 are answered with yes.
 pub record FileRight (operand : Operand) (f : List ℕ) : Type 0 where
   pub size : LengthWords f
-  pub blocks : (B : ℕ) → B < blockCount f → BlockWords f B
+  pub blocks : (B : ℕ) → B < blockCount f → BlockWords (blockCount f) B (blockAt f B)
   pub rows : EachRowRight operand (fieldsOf f)
   pub some-output : 0 < countIf isOutput (netlistOf f)
 
 module _ (operand : Operand) (f : List ℕ) where
+  abbrev blockAsked : ℕ → ℕ
+  blockAsked B = blockQuestions (blockCount f) B (blockAt f B)
+
   abbrev fileAsked : List Refusal
-  fileAsked = question 1 (lengthRight f) ∷ itemQuestions (blockCount f) (blockQuestions f) ∷ rowsRefusal operand (fieldsOf f) ∷ []
+  fileAsked = question 1 (lengthRight f) ∷ itemQuestions (blockCount f) blockAsked ∷ rowsRefusal operand (fieldsOf f) ∷ []
 
   pub file-right : fileRefusalWith operand f .number ≡ 0 → FileRight operand f
   unfolding fileRefusalWith netlistOf
   file-right h =
       let q = all-none fileAsked h in
       let R = rows-right operand (fieldsOf f) (q .1 .1 .0) in
-      record { size = lengthRight-iff f .0 (question-none 0 _ (q .0)); blocks = λ B l. block-right f B (items-none (blockCount f) (blockQuestions f) (q .1 .0) B l); rows = R .rows; some-output = R .some-output }
+      record { size = lengthRight-iff f .0 (question-none 0 _ (q .0)); blocks = λ B l. block-right (blockCount f) B (blockAt f B) (items-none (blockCount f) blockAsked (q .1 .0) B l); rows = R .rows; some-output = R .some-output }
 
   -- The rows of a file whose questions are passed.
   pub file-rows : FileRight operand f → RowsRight operand (fieldsOf f)
@@ -133,7 +137,7 @@ module _ (operand : Operand) (f : List ℕ) where
   file-yes F =
       all-yes fileAsked
       (question-of 1 _ (lengthRight-iff f .1 (F .size))
-      then number-none _ (items-yes (blockCount f) (blockQuestions f) (λ B l. block-yes f B (F .blocks B l)))
+      then number-none _ (items-yes (blockCount f) blockAsked (λ B l. block-yes (blockCount f) B (blockAt f B) (F .blocks B l)))
       then number-none _ (rows-yes operand (fieldsOf f) (file-rows F))
       then tt)
 

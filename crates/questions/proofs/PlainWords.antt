@@ -38,32 +38,32 @@ lengthRight-iff f =
       λ w. ((omega (arith, w .whole), omega (arith, w .whole, w .some-blocks)), omega (arith, w .whole, w .few-blocks)),
     )
 
-module _ (f : List ℕ) (B : ℕ) where
+module _ (k B : ℕ) (b : List ℕ) where
   -- How many rows the block says that it has.
   abbrev pub rowsSaid : ℕ
-  rowsSaid = byteAt f (512 * B + 2)
+  rowsSaid = byteAt b 2
 
-  -- What questions 2 to 5 ask of block B.
+  -- What questions 2 to 5 ask of block B of k.
   pub record BlockWords : Type 0 where
-    pub sum : wordSum f (512 * B) 128 % 2 ^ 32 ≡ rightSum
-    pub mark : byteAt f (512 * B) ≡ lastMark (blockCount f) B
-    pub number : byteAt f (512 * B + 1) ≡ B
-    pub zero-byte : byteAt f (512 * B + 3) ≡ 0
-    pub count-last : suc B ≡ blockCount f → (1 ≤ rowsSaid) × (rowsSaid ≤ 63)
-    pub count-other : ¬ (suc B ≡ blockCount f) → rowsSaid ≡ 63
-    pub unused : (i : ℕ) → i < 504 - 8 * rowsSaid → byteAt f (512 * B + 4 + 8 * rowsSaid + i) ≡ 0
+    pub sum : wordSum b 128 % 2 ^ 32 ≡ rightSum
+    pub mark : byteAt b 0 ≡ lastMark k B
+    pub number : byteAt b 1 ≡ B
+    pub zero-byte : byteAt b 3 ≡ 0
+    pub count-last : suc B ≡ k → (1 ≤ rowsSaid) × (rowsSaid ≤ 63)
+    pub count-other : ¬ (suc B ≡ k) → rowsSaid ≡ 63
+    pub unused : (i : ℕ) → i < 504 - 8 * rowsSaid → byteAt b (4 + 8 * rowsSaid + i) ≡ 0
 
-  pub sumRight-iff : (sumRight f B ≡ true) ↔ (wordSum f (512 * B) 128 % 2 ^ 32 ≡ rightSum)
-  sumRight-iff = eqb-iff (wordSum f (512 * B) 128 % 2 ^ 32) rightSum
+  pub sumRight-iff : (sumRight b ≡ true) ↔ (wordSum b 128 % 2 ^ 32 ≡ rightSum)
+  sumRight-iff = eqb-iff (wordSum b 128 % 2 ^ 32) rightSum
 
-  pub headRight-iff : (headRight f B ≡ true) ↔ (((byteAt f (512 * B) ≡ lastMark (blockCount f) B) × (byteAt f (512 * B + 1) ≡ B)) × (byteAt f (512 * B + 3) ≡ 0))
-  headRight-iff = and-iff _ _ (and-iff _ _ (eqb-iff (byteAt f (512 * B)) (lastMark (blockCount f) B)) (eqb-iff (byteAt f (512 * B + 1)) B)) (eqb-iff (byteAt f (512 * B + 3)) 0)
+  pub headRight-iff : (headRight k B b ≡ true) ↔ (((byteAt b 0 ≡ lastMark k B) × (byteAt b 1 ≡ B)) × (byteAt b 3 ≡ 0))
+  headRight-iff = and-iff _ _ (and-iff _ _ (eqb-iff (byteAt b 0) (lastMark k B)) (eqb-iff (byteAt b 1) B)) (eqb-iff (byteAt b 3) 0)
 
-  pub countRight-iff : (countRight f B ≡ true) ↔ ((suc B ≡ blockCount f → (1 ≤ rowsSaid) × (rowsSaid ≤ 63)) × (¬ (suc B ≡ blockCount f) → rowsSaid ≡ 63))
-  countRight-iff = cond-iff _ _ _ (eqb-iff (suc B) (blockCount f)) (and-iff _ _ (leb-iff 1 rowsSaid) (leb-iff rowsSaid 63)) (eqb-iff rowsSaid 63)
+  pub countRight-iff : (countRight k B b ≡ true) ↔ ((suc B ≡ k → (1 ≤ rowsSaid) × (rowsSaid ≤ 63)) × (¬ (suc B ≡ k) → rowsSaid ≡ 63))
+  countRight-iff = cond-iff _ _ _ (eqb-iff (suc B) k) (and-iff _ _ (leb-iff 1 rowsSaid) (leb-iff rowsSaid 63)) (eqb-iff rowsSaid 63)
 
-  pub unusedRight-iff : (unusedRight f B ≡ true) ↔ ((i : ℕ) → i < 504 - 8 * rowsSaid → byteAt f (512 * B + 4 + 8 * rowsSaid + i) ≡ 0)
-  unusedRight-iff = allBelow-iff (504 - 8 * rowsSaid) _ (λ i. eqb-iff (byteAt f (512 * B + 4 + 8 * rowsSaid + i)) 0)
+  pub unusedRight-iff : (unusedRight b ≡ true) ↔ ((i : ℕ) → i < 504 - 8 * rowsSaid → byteAt b (4 + 8 * rowsSaid + i) ≡ 0)
+  unusedRight-iff = allBelow-iff (504 - 8 * rowsSaid) _ (λ i. eqb-iff (byteAt b (4 + 8 * rowsSaid + i)) 0)
 
 -- ---- 6: the kind
 

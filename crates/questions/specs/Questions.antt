@@ -12,7 +12,7 @@ use Rattle.memory.specs.Lists.{allBelow, firstFrom, countIf}
 use Rattle.memory.specs.Fields.{byteAt}
 use Rattle.netlist.specs.Limits.{mostFileBytes, mostPhases, mostOriginalRows, mostOriginalRegisters, foldResultBytes, foldWorkBytes, foldClockEntries, mostSteps, runWorkBytes}
 use Rattle.netlist.specs.Rows.{Row, constant, input, register, andGate, xorGate, muxGate, output, RowFields, decodeRow, rowAt, kindOf, labelOf, phaseOf, hasName, isNamed, isInput, isRegister, isUnknown, isOutput}
-use Rattle.netlist.specs.FileFormat.{lastMark, wordSum, rightSum, blockCount, fieldsOf, fieldsAt, netlistOf}
+use Rattle.netlist.specs.FileFormat.{lastMark, wordSum, rightSum, blockCount, blockAt, fieldsOf, fieldsAt, netlistOf}
 use Rattle.lasso.specs.LassoSearch.{findLasso}
 
 -- A refusal; number 0 is none, and its place is 0.
@@ -36,26 +36,26 @@ question number answer = cond answer noRefusal (record { number = number; place 
 abbrev pub itemQuestions : ℕ → (ℕ → ℕ) → Refusal
 itemQuestions n f = let i = firstFrom 0 n (λ i. ltb 0 (f i)) in cond (ltb i n) (record { number = f i; place = i }) noRefusal
 
--- ---- 1 to 5: the length, and block B
+-- ---- 1 to 5: the length, and block B of k, b its 512 bytes
 
 abbrev pub lengthRight : List ℕ → Bool
 lengthRight f = eqb (length f % 512) 0 && leb 512 (length f) && leb (length f) mostFileBytes
 
-abbrev pub sumRight : List ℕ → ℕ → Bool
-sumRight f B = eqb (wordSum f (512 * B) 128 % 2 ^ 32) rightSum
+abbrev pub sumRight : List ℕ → Bool
+sumRight b = eqb (wordSum b 128 % 2 ^ 32) rightSum
 
-abbrev pub headRight : List ℕ → ℕ → Bool
-headRight f B = eqb (byteAt f (512 * B)) (lastMark (blockCount f) B) && eqb (byteAt f (512 * B + 1)) B && eqb (byteAt f (512 * B + 3)) 0
+abbrev pub headRight : ℕ → ℕ → List ℕ → Bool
+headRight k B b = eqb (byteAt b 0) (lastMark k B) && eqb (byteAt b 1) B && eqb (byteAt b 3) 0
 
 -- 63 rows, and in the last block 1 to 63.
-abbrev pub countRight : List ℕ → ℕ → Bool
-countRight f B = let n = byteAt f (512 * B + 2) in cond (eqb (suc B) (blockCount f)) (leb 1 n && leb n 63) (eqb n 63)
+abbrev pub countRight : ℕ → ℕ → List ℕ → Bool
+countRight k B b = let n = byteAt b 2 in cond (eqb (suc B) k) (leb 1 n && leb n 63) (eqb n 63)
 
-abbrev pub unusedRight : List ℕ → ℕ → Bool
-unusedRight f B = let n = byteAt f (512 * B + 2) in allBelow (504 - 8 * n) (λ i. eqb (byteAt f (512 * B + 4 + 8 * n + i)) 0)
+abbrev pub unusedRight : List ℕ → Bool
+unusedRight b = let n = byteAt b 2 in allBelow (504 - 8 * n) (λ i. eqb (byteAt b (4 + 8 * n + i)) 0)
 
-unfoldable pub blockQuestions : List ℕ → ℕ → ℕ
-blockQuestions f B = cond (not (sumRight f B)) 2 (cond (not (headRight f B)) 3 (cond (not (countRight f B)) 4 (cond (not (unusedRight f B)) 5 0)))
+unfoldable pub blockQuestions : ℕ → ℕ → List ℕ → ℕ
+blockQuestions k B b = cond (not (sumRight b)) 2 (cond (not (headRight k B b)) 3 (cond (not (countRight k B b)) 4 (cond (not (unusedRight b)) 5 0)))
 
 -- ---- 6 to 10: row i, and the rows
 
@@ -113,7 +113,7 @@ unfoldable pub rowsRefusal : (List Row → ℕ → ℕ → Bool) → List RowFie
 rowsRefusal operand ws = firstRefusal (itemQuestions (length ws) (rowQuestions operand ws) ∷ question 10 (ltb 0 (countIf isOutput (map decodeRow ws))) ∷ [])
 
 unfoldable pub fileRefusalWith : (List Row → ℕ → ℕ → Bool) → List ℕ → Refusal
-fileRefusalWith operand f = firstRefusal (question 1 (lengthRight f) ∷ itemQuestions (blockCount f) (blockQuestions f) ∷ rowsRefusal operand (fieldsOf f) ∷ [])
+fileRefusalWith operand f = firstRefusal (question 1 (lengthRight f) ∷ itemQuestions (blockCount f) (λ B. blockQuestions (blockCount f) B (blockAt f B)) ∷ rowsRefusal operand (fieldsOf f) ∷ [])
 
 -- Check, and what every operation asks first.
 abbrev pub fileRefusal : List ℕ → Refusal
