@@ -1,0 +1,2 @@
+-- Laws of the code's rows.
+pub mod RowCodeLaws

@@ -1,0 +1,2 @@
+-- What the code's row fields stand for.
+pub mod RowCode

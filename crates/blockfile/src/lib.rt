@@ -1,0 +1,56 @@
+// The netlist file as bytes: where a row stands, and its fields.
+ghost use mathlib.Core.Path.{_≡_};
+ghost use Prim.Native.Nat.{_+_, _^_, _<_, _≤_};
+ghost use lib.ListN.{length};
+ghost use Rattle.memory.specs.Fields.{u16At};
+ghost use Rattle.netlist.specs.Limits.{mostRows};
+ghost use Rattle.netlist.specs.FileFormat.{rowOffset, readFields};
+ghost use Rattle.blockfile.specs.RowCode.{fieldsIn, Small};
+
+// A row's fields, as its eight bytes have them.
+pub struct Fields {
+    pub kind: u8,
+    pub reset: u8,
+    pub a: usize,
+    pub b: usize,
+    pub c: usize,
+}
+
+// The byte at which a row starts: 8 bytes for each row before it, and 8 more for each block.
+pub fn row_place(row: usize) -> usize
+    requires { ⌜ row < mostRows ⌝ }
+    ensures { λ r. ⌜ r ≡ rowOffset row ⌝ }
+{
+    row * 8 + row / 63 * 8 + 4
+}
+
+// The field of two bytes at `at`.
+pub fn field_at(file: &[u8], at: usize) -> usize
+    requires { ⌜ at + 2 ≤ length (now file) ⌝ }
+    ensures { λ r. ⌜ (r ≡ u16At (now (file .entry)) at) × (r < 2 ^ 16) ⌝ }
+{
+    memory::read_u16(file, at) as usize
+}
+
+pub fn read_row(file: &[u8], row: usize) -> Fields
+    requires { ⌜ (row < mostRows) × (rowOffset row + 8 ≤ length (now file)) ⌝ }
+    ensures { λ r. ⌜ (fieldsIn r ≡ readFields (now (file .entry)) row) × Small r ⌝ }
+{
+    let place = row_place(row);
+    let second = place + 1;
+    let at_a = place + 2;
+    let at_b = place + 4;
+    let at_c = place + 6;
+    let kind = file[place];
+    let reset = file[second];
+    let a = field_at(file, at_a);
+    let b = field_at(file, at_b);
+    let c = field_at(file, at_c);
+    Fields {
+        kind: kind,
+        reset: reset,
+        a: a,
+        b: b,
+        c: c,
+    }
+}
