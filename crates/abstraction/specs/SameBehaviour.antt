@@ -1,5 +1,5 @@
 -- Demand 3 as a statement: the scope paper, "What demand 3 compares". A group is one step of the folded netlist's run.
--- Interface: FedAlike, AgreeOnKept, SameBehaviour.
+-- Interface: FedAlike, AgreeOnKept, SameBehaviour, StandsFor.
 -- Assumes nothing.
 use Prim.Native.Nat.{ℕ, _+_, _*_, _<_, _/_, _%_}
 use mathlib.Core.Path.{_≡_}

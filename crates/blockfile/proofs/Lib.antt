@@ -1,2 +1,3 @@
--- Laws of the code's rows.
+-- Laws of the code's rows and of the writer.
 pub mod RowCodeLaws
+pub mod WriterLaws

@@ -1,2 +1,3 @@
--- What the code's row fields stand for.
+-- What the code's row fields stand for, and rows that stand in a buffer.
 pub mod RowCode
+pub mod RowsStand

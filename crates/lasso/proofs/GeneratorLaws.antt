@@ -84,7 +84,7 @@ module _ (rows : List Row) (z : Lasso) (is : IsLasso rows z) where
       let f = first-is 1 (z .cycle) (isGenerator rows z i) in
       cond-case (Answers i) (isRegister (rowAt rows i) && leb n (z .cycle)) n 0
       (λ b. (
-        λ h. record { positive = h; generates = f .holds (omega (arith, leb-true n (z .cycle) (and-true (isRegister (rowAt rows i)) _ b .1))); least = λ q k e. first-least 1 (z .cycle) (isGenerator rows z i) q k e },
+        λ h. record { nonzero = h; generates = f .holds (omega (arith, leb-true n (z .cycle) (and-true (isRegister (rowAt rows i)) _ b .1))); least = λ q k e. first-least 1 (z .cycle) (isGenerator rows z i) q k e },
         λ _ h q k e. omega (arith, h, f .from),
       ))
       (λ b. (

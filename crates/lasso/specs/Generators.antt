@@ -60,7 +60,7 @@ clockValue rows ps N i k = let p = getD ps i 0 in cond (isUsed N p) (stateValue 
 
 -- p is the least length of row i's generators.
 pub record IsPeriod (rows : List Row) (z : Lasso) (i p : ℕ) : Type 0 where
-  pub positive : 0 < p
+  pub nonzero : 0 < p
   pub generates : isGenerator rows z i p ≡ true
   pub least : (q : ℕ) → 0 < q → isGenerator rows z i q ≡ true → p ≤ q
 

@@ -1,4 +1,4 @@
--- Laws of rows, runs and the three-valued run.
+-- Laws of rows, runs, the three-valued run and files.
 pub mod RowLaws
 pub mod WellFormed
 pub mod SimulationLaws

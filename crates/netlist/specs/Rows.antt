@@ -1,5 +1,5 @@
 -- Rows, their fields, names and literals: the scope paper, "The netlist file".
--- Interface: Row, RowFields, encodeRow, decodeRow, rowAt, kindOf, labelOf, phaseOf, literalsOf, mapLiterals, onRegister, onOutput, rowNamed, HasInput, HasRegister, HasUnknown, HasOutput.
+-- Interface: Row, RowFields, encodeRow, decodeRow, rowAt, kindOf, onRegister, onOutput, isInput, isRegister, isUnknown, isOutput, labelOf, phaseOf, hasName, isNamed, rowNamed, HasInput, HasRegister, HasUnknown, HasOutput, literalsOf, mapLiterals.
 -- Assumes nothing.
 use Prim.Native.Nat.{ℕ, zero, suc}
 use mathlib.Core.Path.{_≡_}

@@ -120,13 +120,6 @@ module _ (operand : Operand) (f : List ℕ) where
   abbrev fileAsked : List Refusal
   fileAsked = question 1 (lengthRight f) ∷ itemQuestions (blockCount f) blockAsked ∷ rowsRefusal operand (fieldsOf f) ∷ []
 
-  pub file-right : fileRefusalWith operand f .number ≡ 0 → FileRight operand f
-  unfolding fileRefusalWith netlistOf
-  file-right h =
-      let q = all-none fileAsked h in
-      let R = rows-right operand (fieldsOf f) (q .1 .1 .0) in
-      record { size = lengthRight-iff f .0 (question-none 0 _ (q .0)); blocks = λ B l. block-right (blockCount f) B (blockAt f B) (items-none (blockCount f) blockAsked (q .1 .0) B l); rows = R .rows; some-output = R .some-output }
-
   -- The rows of a file whose questions are passed.
   pub file-rows : FileRight operand f → RowsRight operand (fieldsOf f)
   unfolding netlistOf
@@ -140,6 +133,13 @@ module _ (operand : Operand) (f : List ℕ) where
       then number-none _ (items-yes (blockCount f) blockAsked (λ B l. block-yes (blockCount f) B (blockAt f B) (F .blocks B l)))
       then number-none _ (rows-yes operand (fieldsOf f) (file-rows F))
       then tt)
+
+  pub file-right : fileRefusalWith operand f .number ≡ 0 → FileRight operand f
+  unfolding fileRefusalWith netlistOf
+  file-right h =
+      let q = all-none fileAsked h in
+      let R = rows-right operand (fieldsOf f) (q .1 .1 .0) in
+      record { size = lengthRight-iff f .0 (question-none 0 _ (q .0)); blocks = λ B l. block-right (blockCount f) B (blockAt f B) (items-none (blockCount f) blockAsked (q .1 .0) B l); rows = R .rows; some-output = R .some-output }
 
 -- ---- 6 to 10 in plain words
 

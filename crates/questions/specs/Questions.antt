@@ -86,7 +86,7 @@ labelIsNew rows i = allBelow i (λ j. not (sameName (rowAt rows i) (rowAt rows j
 abbrev pub namesNode : List Row → ℕ → Bool
 namesNode rows l = ltb (l / 2) (length rows) && not (isOutput (rowAt rows (l / 2)))
 
--- 9, for an operand of the gate in row i: a row of smaller number, which is a node, since 6 is asked of the gate first.
+-- 9, for an operand of the gate in row i: a row of smaller number, which is a node, since 6 is asked of the gate first; the rows themselves are not looked at.
 abbrev pub namesEarlier : List Row → ℕ → ℕ → Bool
 namesEarlier rows i l = ltb (l / 2) i
 

@@ -34,12 +34,13 @@ mux3 lo b c = c
 mux3 hi b c = b
 mux3 X b c = X
 
--- X is coded 2; so is, out of range, every number above 2.
+-- X is coded 2.
 abbrev pub codeOf : Ternary → ℕ
 codeOf lo = 0
 codeOf hi = 1
 codeOf X = 2
 
+-- The value of a code; out of range, above 2, it is X.
 abbrev pub valueOf : ℕ → Ternary
 valueOf zero = lo
 valueOf (suc zero) = hi
