@@ -1,6 +1,6 @@
 -- The code's row fields as the model's.
 -- Assumes nothing.
-use Prim.Native.Nat.{ℕ, _<_, _^_}
+use Prim.Native.Nat.{_<_, _^_}
 use Rattle.netlist.specs.Rows.{RowFields}
 use Rattle.blockfile.specs.declared.Fields.{Fields}
 

@@ -7,6 +7,8 @@ ghost use Rattle.netlist.specs.Limits.{mostRows};
 ghost use Rattle.netlist.specs.FileFormat.{rowOffset, readFields};
 ghost use Rattle.blockfile.specs.RowCode.{fieldsIn, Small};
 
+pub mod blocks;
+pub mod count;
 pub mod writer;
 
 // A row's fields, as its eight bytes have them.

@@ -1,0 +1,84 @@
+-- The rows of a file as the code reads them, and where they stand in a file that Check accepts.
+-- Assumes nothing.
+use Prim.Native.Nat.{ℕ, zero, suc, _+_, _-_, _<_, _≤_}
+use mathlib.Core.Path.{_≡_, refl, sym, ap, _∙_}
+use mathlib.Core.Bool.{true}
+use mathlib.Core.List.{List}
+use native.Mathlib.Omega.{arith}
+use lib.ListN.{length, length-map, List·getD-map}
+use lib.Dec.{eqb}
+use borrow.Author.Tests.{ne-eqb}
+use Rattle.memory.specs.Fields.{byteAt}
+use Rattle.netlist.specs.Limits.{mostRows}
+use Rattle.netlist.specs.Rows.{RowFields, encodeRow, decodeRow, rowFromFields, rowAt, constant, isOutput}
+use Rattle.netlist.specs.FileFormat.{blockCount, blockAt, rowOffset, readFields, rowCount, fieldsOf, netlistOf}
+use Rattle.netlist.proofs.FileLaws.{block-at, read-length, read-at}
+use Rattle.questions.specs.Questions.{noRefusal, lengthRight, namesEarlier, fileRefusal}
+use Rattle.questions.proofs.QuestionLaws.{number-none, items-none}
+use Rattle.questions.proofs.PlainWords.{LengthWords, lengthRight-iff, BlockWords}
+use Rattle.questions.proofs.AcceptedFiles.{FileRight, file-right, block-right}
+use Rattle.accept.specs.Refusals.{blockAsked, blocksRefusal}
+use Rattle.accept.specs.RowChecks.{BlocksRight, RowsOf}
+
+-- ---- rows read from bytes
+
+module _ (f : List ℕ) where
+  pub fields-length : length (fieldsOf f) ≡ rowCount f
+  unfolding netlistOf
+  fields-length = sym (length-map (fieldsOf f) decodeRow) ∙ read-length f
+
+  pub row-at : (i : ℕ) → i < rowCount f → rowAt (netlistOf f) i ≡ decodeRow (readFields f i)
+  unfolding netlistOf
+  row-at i h = List·getD-map decodeRow (fieldsOf f) i (encodeRow constant) ∙ ap decodeRow (read-at f i h)
+
+-- A row is an output exactly if its kind is 6.
+pub output-kind : (w : RowFields) → isOutput (decodeRow w) ≡ eqb (w .kind) 6
+output-kind w = go (w .kind)
+  where
+    go : (k : ℕ) → isOutput (rowFromFields k (w .reset) (w .a) (w .b) (w .c)) ≡ eqb k 6
+    go zero = refl
+    go (suc zero) = refl
+    go (suc (suc zero)) = refl
+    go (suc (suc (suc zero))) = refl
+    go (suc (suc (suc (suc zero)))) = refl
+    go (suc (suc (suc (suc (suc zero))))) = refl
+    go (suc (suc (suc (suc (suc (suc zero)))))) = refl
+    go (suc (suc (suc (suc (suc (suc (suc k))))))) = sym (ne-eqb (suc (suc (suc (suc (suc (suc (suc k))))))) 6 (λ e. omega arith))
+
+pub output-at : (f : List ℕ) (i : ℕ) → i < rowCount f → isOutput (rowAt (netlistOf f) i) ≡ eqb (byteAt f (rowOffset i)) 6
+output-at f i h = ap isOutput (row-at f i h) ∙ output-kind (readFields f i)
+
+-- ---- a file whose blocks are right
+
+last-block : (f : List ℕ) → LengthWords f → ((B : ℕ) → B < blockCount f → BlockWords (blockCount f) B (blockAt f B)) → BlocksRight f
+last-block f w blocks =
+    let k = blockCount f in
+    let n = blocks (k - 1) (omega (arith, w .some-blocks)) .count-last (omega (arith, w .some-blocks)) in
+    let e = block-at f (k - 1) 2 (omega arith) in
+    record { whole = w .whole; some = w .some-blocks; few = w .few-blocks; last-some = omega (arith, n .0, e); last-most = omega (arith, n .1, e) }
+
+pub blocks-right : (f : List ℕ) → lengthRight f ≡ true → blocksRefusal f ≡ noRefusal → BlocksRight f
+blocks-right f l h =
+    last-block f (lengthRight-iff f .0 l) (λ B m. block-right (blockCount f) B (blockAt f B) (items-none (blockCount f) (blockAsked f) (number-none (blocksRefusal f) h) B m))
+
+pub rows-of : (f : List ℕ) → BlocksRight f → RowsOf f (rowCount f)
+rows-of f R = record { counted = refl; few = omega (arith, R .few, R .some, R .last-most); inside = omega (arith, R .some, R .last-most) }
+
+-- ---- a file that Check accepts
+
+module _ (f : List ℕ) (accepted : fileRefusal f ≡ noRefusal) where
+  accepted-right : FileRight namesEarlier f
+  accepted-right = file-right namesEarlier f (number-none (fileRefusal f) accepted)
+
+  pub accepted-blocks : BlocksRight f
+  accepted-blocks = last-block f (accepted-right .size) (accepted-right .blocks)
+
+  pub accepted-count : (1 ≤ length (netlistOf f)) × (length (netlistOf f) ≤ mostRows)
+  accepted-count = (omega (arith, read-length f, accepted-blocks .last-some), omega (arith, read-length f, rows-of f accepted-blocks .few))
+
+  -- Row i stands in the file whole, and is that of its eight bytes.
+  pub accepted-inside : (i : ℕ) → i < length (netlistOf f) → rowOffset i + 8 ≤ length f
+  accepted-inside i h = omega (arith, read-length f, rows-of f accepted-blocks .inside)
+
+  pub accepted-row : (i : ℕ) → i < length (netlistOf f) → rowAt (netlistOf f) i ≡ decodeRow (readFields f i)
+  accepted-row i h = row-at f i (omega (arith, read-length f))

@@ -1,0 +1,213 @@
+-- One step of the run from its three passes, and the run after one step more.
+-- Assumes nothing.
+use Prim.Native.Nat.{ℕ, zero, suc, _+_, _-_, _*_, _<_, _≤_}
+use mathlib.Core.Path.{_≡_, refl, sym, ap, _∙_}
+use mathlib.Core.Bool.{Bool, true, false, cond, not, true≢false}
+use mathlib.Core.List.{List, [], _∷_, _++_, map}
+use native.Mathlib.Omega.{arith}
+use native.Mathlib.Numerals.{add-one}
+use native.Mathlib.Nat.{suc-mul, mul-comm, mul-le-mul-right}
+use lib.ListN.{length, take, drop, length-append, length-drop, length-map}
+use lib.Seq.{sets, getD-drop, take-suc, take-length, ext-getD}
+use Rattle.memory.specs.Lists.{countIf, joinBelow}
+use Rattle.memory.specs.Fields.{byteAt}
+use Rattle.memory.proofs.ListLaws.{join-length, tabulate-length, tabulate-at}
+use Rattle.memory.proofs.BufferLaws.{sets-join}
+use Rattle.netlist.specs.Rows.{Row, constant, input, register, andGate, xorGate, muxGate, output, rowAt, isInput, isOutput, onOutput}
+use Rattle.netlist.specs.FileFormat.{netlistOf}
+use Rattle.netlist.specs.Simulation.{boolLogic, resetValue, nextValue, valueAt, stepValues, runState, runValue}
+use Rattle.netlist.specs.RunLayout.{valuesFromBytes, stepBytes, runBytes}
+use Rattle.netlist.proofs.RowLaws.{output-is}
+use Rattle.netlist.proofs.SimulationLaws.{values-length}
+use Rattle.blockfile.proofs.CountLaws.{count-next}
+use Rattle.simulate.specs.Values.{bit, bitAt, bitByte, bitBytes, stateIn, stepInputs, resetChoices, valuesFrom, shownBytes}
+use Rattle.simulate.specs.Steps.{NetlistReady, WorkReady, Given, Stepped}
+use Rattle.simulate.proofs.BitLaws.{bit-byte, bytes-at, bits-at, binary-bytes}
+use Rattle.simulate.proofs.WriteLaws.{write-inside, write-front}
+use Rattle.simulate.proofs.PlaceLaws.{node-before, output-from, count-parts}
+use Rattle.simulate.proofs.PassLaws.{next-cong, work-written}
+
+-- ---- numbers
+
+-- Step t of T has room for its k values.
+step-fits : (t T k base room : ℕ) → t < T → base ≡ t * k → T * k ≤ room → base + k ≤ room
+step-fits t T k base room h e l = omega (arith, mul-le-mul-right k h, suc-mul t k)
+
+pub step-next : (t k base : ℕ) → base ≡ t * k → base + k ≡ (t + 1) * k
+step-next t k base e = rw (add-one t) (omega (arith, suc-mul t k))
+
+-- ---- lists
+
+map-cong : (F G : Row → Bool) (rows : List Row) → ((i : ℕ) → i < length rows → F (rowAt rows i) ≡ G (rowAt rows i)) → map F rows ≡ map G rows
+map-cong F G [] h = refl
+map-cong F G (r ∷ rs) h = cc (h 0 (omega arith), map-cong F G rs (λ i l. h (suc i) (omega arith)))
+
+join-none : (F : ℕ → List ℕ) (m : ℕ) → ((j : ℕ) → j < m → F j ≡ []) → joinBelow m F ≡ []
+join-none F zero h = refl
+join-none F (suc m) h = rw (join-none F m (λ j l. h j (omega arith)), h m (omega arith))
+
+-- Lists that are empty before m, and from m on one byte of w each.
+join-tail : (F : ℕ → List ℕ) (w : List ℕ) (m d : ℕ) → m + d ≤ length w → ((j : ℕ) → j < m → F j ≡ []) → ((j : ℕ) → j < d → F (m + j) ≡ byteAt w (m + j) ∷ []) → joinBelow (m + d) F ≡ take d (drop m w)
+join-tail F w m zero h none one = let z : m + 0 ≡ m = omega arith in rw z (join-none F m none)
+join-tail F w m (suc d) h none one =
+    let z : m + suc d ≡ suc (m + d) = omega arith in
+    rw z
+    (ap (λ (l : List ℕ). l ++ F (m + d)) (join-tail F w m d (omega arith) none (λ j l. one j (omega arith)))
+    ∙ ap (λ (l : List ℕ). take d (drop m w) ++ l) (one d (omega arith) ∙ ap (λ (x : ℕ). x ∷ []) (sym (getD-drop m w d 0)))
+    ∙ sym (take-suc (drop m w) d 0 (omega (arith, length-drop m w))))
+
+-- ---- what the outputs show
+
+shown-node : (x : ℕ) (r : Row) → isOutput r ≡ false → onOutput [] (λ a l p. x ∷ []) r ≡ []
+shown-node x constant e = refl
+shown-node x (input _ _) e = refl
+shown-node x (register _ _ _) e = refl
+shown-node x (andGate _ _) e = refl
+shown-node x (xorGate _ _) e = refl
+shown-node x (muxGate _ _ _) e = refl
+shown-node x (output _ _ _) e = absurd (true≢false e)
+
+shown-output : (x : ℕ) (r : Row) → isOutput r ≡ true → onOutput [] (λ a l p. x ∷ []) r ≡ x ∷ []
+shown-output x r e = rw (output-is r e .3)
+
+module _ (rows : List Row) (vs : List Bool) where
+  -- What row i shows.
+  abbrev shownAt : ℕ → List ℕ
+  shownAt i = onOutput [] (λ a l p. bitByte (valueAt boolLogic vs i) ∷ []) (rowAt rows i)
+
+  shown-upto : (m : ℕ) → m ≤ length rows → length (joinBelow m shownAt) ≡ countIf isOutput (take m rows)
+  shown-upto zero h = refl
+  shown-upto (suc m) h = length-append (joinBelow m shownAt) (shownAt m) ∙ go (isOutput (rowAt rows m)) refl (shown-upto m (omega arith)) (count-next isOutput constant rows m (omega arith))
+    where
+      go : (t : Bool) → isOutput (rowAt rows m) ≡ t → length (joinBelow m shownAt) ≡ countIf isOutput (take m rows) → countIf isOutput (take (m + 1) rows) ≡ countIf isOutput (take m rows) + cond (isOutput (rowAt rows m)) 1 0
+          → length (joinBelow m shownAt) + length (shownAt m) ≡ countIf isOutput (take (suc m) rows)
+      go true e ih q = rw (shown-output (bitByte (valueAt boolLogic vs m)) (rowAt rows m) e, sym (add-one m)) (omega (arith, ap (λ (b : Bool). cond {A = ℕ} b 1 0) e))
+      go false e ih q = rw (shown-node (bitByte (valueAt boolLogic vs m)) (rowAt rows m) e, sym (add-one m)) (omega (arith, ap (λ (b : Bool). cond {A = ℕ} b 1 0) e))
+
+  pub shown-length : length (shownBytes rows vs) ≡ countIf isOutput rows
+  unfolding shownBytes
+  shown-length = shown-upto (length rows) (omega arith) ∙ ap (countIf isOutput) (take-length rows)
+
+module _ (f : List ℕ) (n : ℕ) (N : NetlistReady f n) where
+  abbrev nodes : ℕ
+  nodes = countIf (λ r. not (isOutput r)) (netlistOf f)
+
+  pub outputs-are : (nds : ℕ) → nds ≡ nodes → n - nds ≡ countIf isOutput (netlistOf f)
+  outputs-are nds e = omega (arith, count-parts isOutput constant (netlistOf f), N .ready .count)
+
+  pub nodes-most : nodes ≤ n
+  nodes-most = omega (arith, count-parts isOutput constant (netlistOf f), N .ready .count)
+
+  -- The bytes of the rows from the nodes' number on.
+  shown-is : (vs : List Bool) (w : List ℕ) → n ≤ length w → ((j : ℕ) → j < n → byteAt w j ≡ bitByte (valueAt boolLogic vs j)) → take (n - nodes) (drop nodes w) ≡ shownBytes (netlistOf f) vs
+  unfolding shownBytes
+  shown-is vs w room bytes =
+      let rows = netlistOf f in
+      let m = nodes-most in
+      let z : nodes + (n - nodes) ≡ length rows = omega (arith, N .ready .count) in
+      sym
+      (ap (λ (k : ℕ). joinBelow k (shownAt rows vs)) (sym z)
+      ∙ join-tail (shownAt rows vs) w nodes (n - nodes) (omega arith)
+      (λ j l. shown-node (bitByte (valueAt boolLogic vs j)) (rowAt rows j) (node-before rows (N .checked .nodes-first) j l))
+      (λ j l.
+      shown-output (bitByte (valueAt boolLogic vs (nodes + j))) (rowAt rows (nodes + j)) (output-from rows (N .checked .nodes-first) (nodes + j) (omega (arith, N .ready .count)) (omega arith))
+      ∙ ap (λ (x : ℕ). x ∷ []) (sym (bytes (nodes + j) (omega arith)))))
+
+  -- ---- states
+
+  module _ (half : ℕ) (v w : List ℕ) (W : WorkReady n half v) where
+    -- The state that was written.
+    pub state-written : (ss : List Bool) → length ss ≡ length (netlistOf f) → w ≡ sets v half (bitBytes ss) → stateIn w half (length (netlistOf f)) ≡ ss
+    state-written ss e ew =
+        let m = length (netlistOf f) in
+        let k = length-map ss bitByte in
+        let fits : half + length (bitBytes ss) ≤ length v = omega (arith, N .ready .count, W .rows-fit, W .halves-fit) in
+        ext-getD false (stateIn w half m) ss (tabulate-length m (λ j. bitAt w (half + j)) ∙ sym e) (λ j l.
+        let b : j < m = omega (arith, l, tabulate-length m (λ (j : ℕ). bitAt w (half + j))) in
+        tabulate-at m (λ j. bitAt w (half + j)) j false b
+        ∙ ap bit (ap (λ (l : List ℕ). byteAt l (half + j)) ew ∙ write-inside v (bitBytes ss) half fits j (omega arith))
+        ∙ bits-at ss j)
+
+  -- The three passes are a step.
+  pub step-of : (inputs : List ℕ) (base half nds to : ℕ) (v w₁ w₂ r₀ r : List ℕ) → WorkReady n half v → nds ≡ nodes → w₁ ≡ sets v 0 (bitBytes (valuesFrom (netlistOf f) inputs base v half)) → r ≡ sets r₀ to (take (n - nds) (drop nds w₁))
+      → w₂ ≡ sets w₁ half (bitBytes (map (nextValue boolLogic (bitAt w₁)) (netlistOf f))) → Stepped (netlistOf f) half (valuesFrom (netlistOf f) inputs base v half) to w₂ r₀ r
+  unfolding stepValues
+  step-of inputs base half nds to v w₁ w₂ r₀ r W en e₁ er e₂ =
+      let rows = netlistOf f in
+      let vs = valuesFrom rows inputs base v half in
+      let count : length (bitBytes vs) ≡ n = length-map vs bitByte ∙ values-length boolLogic rows (stateIn v half (length rows)) (stepInputs rows inputs base) (length rows) ∙ sym (N .ready .count) in
+      let fits : 0 + length (bitBytes vs) ≤ length v = omega (arith, W .rows-fit, W .halves-fit) in
+      let bytes : (j : ℕ) → j < n → byteAt w₁ j ≡ bitByte (valueAt boolLogic vs j) = λ j l.
+      let z : 0 + j ≡ j = omega arith in
+      ap (λ (l : List ℕ). byteAt l j) e₁ ∙ ap (byteAt (sets v 0 (bitBytes vs))) (sym z) ∙ write-inside v (bitBytes vs) 0 fits j (omega arith) ∙ bytes-at vs j in
+      let W₁ = work-written n half v w₁ 0 (bitBytes vs) W (binary-bytes vs) e₁ in
+      let next = map (nextValue boolLogic (bitAt w₁)) rows in
+      record {
+        binary = work-written n half w₁ w₂ half (bitBytes next) W₁ (binary-bytes next) e₂ .binary;
+        state = state-written half w₁ w₂ W₁ next (length-map rows (nextValue boolLogic (bitAt w₁))) e₂
+            ∙ map-cong (nextValue boolLogic (bitAt w₁)) (nextValue boolLogic (valueAt boolLogic vs)) rows (λ i l.
+            next-cong (bitAt w₁) (valueAt boolLogic vs) (length rows) (λ j k. ap bit (bytes j (omega (arith, N .ready .count))) ∙ bit-byte (valueAt boolLogic vs j)) (rowAt rows i) (N .checked .nexts i l));
+        shown = er ∙ rw en (ap (λ (l : List ℕ). sets r₀ to l) (shown-is vs w₁ (omega (arith, W₁ .rows-fit, W₁ .halves-fit)) bytes));
+      }
+
+-- Each step finds its inputs, and room for its outputs.
+pub given-fits : (f : List ℕ) (n nds ins T : ℕ) (choices inputs : List ℕ) (result : ℕ) (work : List ℕ) (half : ℕ) → Given f n nds ins T choices inputs result work half → (t base to : ℕ) → t < T → base ≡ t * ins → to ≡ t * (n - nds) → (base + ins ≤ length inputs) × (to + (n - nds) ≤ result)
+given-fits f n nds ins T choices inputs result work half G t base to h eb et =
+    (step-fits t T ins base (length inputs) h eb (omega (arith, G .input-count)), step-fits t T (n - nds) to result h et (rw (outputs-are f n (G .netlist) nds (G .nodes-are)) (G .result-holds)))
+
+-- ---- the run after t steps: memory w, result r, which was r₀
+
+pub record Running (f : List ℕ) (choices inputs : List ℕ) (n half t : ℕ) (w r₀ r : List ℕ) : Type 0 where
+  pub work : WorkReady n half w
+  pub state : stateIn w half (length (netlistOf f)) ≡ runState boolLogic (netlistOf f) (valuesFromBytes (netlistOf f) choices inputs .choices) (valuesFromBytes (netlistOf f) choices inputs .inputs) t
+  pub shown : r ≡ sets r₀ 0 (runBytes (netlistOf f) choices inputs t)
+
+module _ (f : List ℕ) (n : ℕ) (N : NetlistReady f n) (choices inputs : List ℕ) where
+  step-bytes : (vs : List Bool) (t : ℕ) → vs ≡ stepValues boolLogic (netlistOf f) (runState boolLogic (netlistOf f) (valuesFromBytes (netlistOf f) choices inputs .choices) (valuesFromBytes (netlistOf f) choices inputs .inputs) t) (valuesFromBytes (netlistOf f) choices inputs .inputs t)
+      → shownBytes (netlistOf f) vs ≡ stepBytes (netlistOf f) (valuesFromBytes (netlistOf f) choices inputs) t
+  unfolding shownBytes stepBytes runValue
+  step-bytes vs t e = ap (shownBytes (netlistOf f)) e
+
+  run-length : (t : ℕ) → length (runBytes (netlistOf f) choices inputs t) ≡ t * countIf isOutput (netlistOf f)
+  unfolding runBytes
+  run-length t =
+      join-length (countIf isOutput (netlistOf f)) (stepBytes (netlistOf f) (valuesFromBytes (netlistOf f) choices inputs)) t
+      (λ j l. sym (ap length (step-bytes _ j refl)) ∙ shown-length (netlistOf f) _)
+      ∙ mul-comm (countIf isOutput (netlistOf f)) t
+
+  pub run-none : (half : ℕ) (v w r₀ : List ℕ) → WorkReady n half v → w ≡ sets v half (bitBytes (map (resetValue boolLogic (resetChoices (netlistOf f) choices)) (netlistOf f))) → Running f choices inputs n half 0 w r₀ r₀
+  unfolding runState runBytes valuesFromBytes
+  run-none half v w r₀ W e =
+      let first = map (resetValue boolLogic (resetChoices (netlistOf f) choices)) (netlistOf f) in
+      record {
+        work = work-written n half v w half (bitBytes first) W (binary-bytes first) e;
+        state = state-written f n N half v w W first (length-map (netlistOf f) (resetValue boolLogic (resetChoices (netlistOf f) choices))) e;
+        shown = refl;
+      }
+
+  pub run-more : (half t ins base to outs : ℕ) (v w r₀ r r′ : List ℕ) → ins ≡ countIf isInput (netlistOf f) → base ≡ t * ins → outs ≡ countIf isOutput (netlistOf f) → to ≡ t * outs → length w ≡ length v
+      → Running f choices inputs n half t v r₀ r → Stepped (netlistOf f) half (valuesFrom (netlistOf f) inputs base v half) to w r r′ → Running f choices inputs n half (t + 1) w r₀ r′
+  unfolding runState runBytes valuesFromBytes
+  run-more half t ins base to outs v w r₀ r r′ ei eb eo et el U S =
+      let rows = netlistOf f in
+      let vs = valuesFrom rows inputs base v half in
+      let run = valuesFromBytes rows choices inputs in
+      let same : vs ≡ stepValues boolLogic rows (runState boolLogic rows (run .choices) (run .inputs) t) (run .inputs t) =
+      ap (λ (s : List Bool). stepValues boolLogic rows s (stepInputs rows inputs base)) (U .state)
+      ∙ ap (λ (b : ℕ). stepValues boolLogic rows (runState boolLogic rows (run .choices) (run .inputs) t) (stepInputs rows inputs b)) (eb ∙ ap (λ (k : ℕ). t * k) ei) in
+      let front : to ≡ 0 + length (runBytes rows choices inputs t) = omega (arith, et ∙ ap (λ (k : ℕ). t * k) eo, run-length t) in
+      rw (add-one t)
+      (record {
+        work = record { rows-fit = U .work .rows-fit; halves-fit = omega (arith, U .work .halves-fit); binary = S .binary };
+        state = S .state ∙ ap (λ (l : List Bool). map (nextValue boolLogic (valueAt boolLogic l)) rows) same;
+        shown = S .shown
+            ∙ ap (λ (l : List ℕ). sets l to (shownBytes rows vs)) (U .shown)
+            ∙ ap (λ (k : ℕ). sets (sets r₀ 0 (runBytes rows choices inputs t)) k (shownBytes rows vs)) front
+            ∙ sets-join (runBytes rows choices inputs t) (shownBytes rows vs) r₀ 0
+            ∙ ap (λ (l : List ℕ). sets r₀ 0 (runBytes rows choices inputs t ++ l)) (step-bytes vs t same);
+      })
+
+  pub run-end : (half T : ℕ) (w r₀ r : List ℕ) → T * countIf isOutput (netlistOf f) ≤ length r₀ → Running f choices inputs n half T w r₀ r → r ≡ runBytes (netlistOf f) choices inputs T ++ drop (T * countIf isOutput (netlistOf f)) r₀
+  run-end half T w r₀ r h U =
+      let run = runBytes (netlistOf f) choices inputs T in
+      U .shown ∙ write-front r₀ run (omega (arith, run-length T)) ∙ ap (λ (k : ℕ). run ++ drop k r₀) (run-length T)

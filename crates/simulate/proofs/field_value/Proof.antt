@@ -1,0 +1,17 @@
+-- `field_value` meets its contract: the literal is the field.
+-- Assumes nothing.
+use borrow.Author.Needs.{needs}
+use Rattle.simulate.proofs.field_value.Statement.{statement}
+use Rattle.simulate.proofs.field_value.Tie as tie
+
+field-at-requires : tie.Need-field-at-requires
+field-at-requires c κs = search needs
+
+literal-value-requires : tie.Need-literal-value-requires
+literal-value-requires c κs = search needs
+
+returns : tie.Need-returns
+returns c = rw (c .before .field-at .ensures .0) at (c .literal-value .ensures)
+
+pub field-value-spec : {M : Type 1} → statement M
+field-value-spec = tie.close (tie.spec field-at-requires literal-value-requires returns)

@@ -1,0 +1,115 @@
+-- `row_value` meets its contract, by kinds: what each arm reads is in range, and its value is the row's.
+-- Assumes nothing.
+use Rattle.simulate.proofs.RowValueLaws.{and-names-a, and-names-b, xor-names-a, xor-names-b, mux-names-a, mux-names-b, mux-names-c, output-names, value-constant, value-input, value-register, value-and, value-xor, value-mux, value-output, value-other}
+use borrow.Author.Needs.{needs}
+use Rattle.simulate.proofs.row_value.Statement.{statement}
+use Rattle.simulate.proofs.row_value.Tie as tie
+
+row-place-requires : tie.Need-row-place-requires
+row-place-requires c κs = search needs
+
+add-at-a : tie.Need-add-at-a
+add-at-a c = search needs
+
+add-at-b : tie.Need-add-at-b
+add-at-b c = search needs
+
+add-at-c : tie.Need-add-at-c
+add-at-c c = search needs
+
+add-held : tie.Need-add-held
+add-held c = search needs
+
+shared-slice-read-result : tie.Need-shared-slice-read-result
+shared-slice-read-result c = c .before .before .before .before .before .before .pre .1 .0 .0 (search needs)
+
+shared-slice-read-result-2 : tie.Need-shared-slice-read-result-2
+shared-slice-read-result-2 c = search needs
+
+field-value-requires : tie.Need-field-value-requires
+field-value-requires c κs = search (and-names-a, needs)
+
+field-value-requires-2 : tie.Need-field-value-requires-2
+field-value-requires-2 c κs = search (and-names-b, needs)
+
+and-of-requires : tie.Need-and-of-requires
+and-of-requires c κs = search needs
+
+field-value-requires-3 : tie.Need-field-value-requires-3
+field-value-requires-3 c κs = search (xor-names-a, needs)
+
+field-value-requires-4 : tie.Need-field-value-requires-4
+field-value-requires-4 c κs = search (xor-names-b, needs)
+
+xor-of-requires : tie.Need-xor-of-requires
+xor-of-requires c κs = search needs
+
+field-value-requires-5 : tie.Need-field-value-requires-5
+field-value-requires-5 c κs = search (mux-names-a, needs)
+
+field-value-requires-6 : tie.Need-field-value-requires-6
+field-value-requires-6 c κs = search (mux-names-b, needs)
+
+field-value-requires-7 : tie.Need-field-value-requires-7
+field-value-requires-7 c κs = search (mux-names-c, needs)
+
+mux-of-requires : tie.Need-mux-of-requires
+mux-of-requires c κs = search needs
+
+field-value-requires-8 : tie.Need-field-value-requires-8
+field-value-requires-8 c κs = search (output-names, needs)
+
+returns : tie.Need-returns
+returns c = search value-constant
+
+returns-2 : tie.Need-returns-2
+returns-2 c = search value-input
+
+returns-3 : tie.Need-returns-3
+returns-3 c = search value-register
+
+returns-4 : tie.Need-returns-4
+returns-4 c = search value-and
+
+returns-5 : tie.Need-returns-5
+returns-5 c = search value-xor
+
+returns-6 : tie.Need-returns-6
+returns-6 c = search value-mux
+
+returns-7 : tie.Need-returns-7
+returns-7 c = search value-output
+
+returns-8 : tie.Need-returns-8
+returns-8 c = search value-other
+
+pub row-value-spec : {M : Type 1} → statement M
+row-value-spec =
+    tie.close
+    (tie.spec
+    row-place-requires
+    add-at-a
+    add-at-b
+    add-at-c
+    add-held
+    shared-slice-read-result
+    shared-slice-read-result-2
+    field-value-requires
+    field-value-requires-2
+    and-of-requires
+    field-value-requires-3
+    field-value-requires-4
+    xor-of-requires
+    field-value-requires-5
+    field-value-requires-6
+    field-value-requires-7
+    mux-of-requires
+    field-value-requires-8
+    returns
+    returns-2
+    returns-3
+    returns-4
+    returns-5
+    returns-6
+    returns-7
+    returns-8)

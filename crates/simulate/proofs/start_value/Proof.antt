@@ -1,0 +1,47 @@
+-- `start_value` meets its contract, by kind and reset.
+-- Assumes nothing.
+use Rattle.simulate.proofs.RowValueLaws.{start-zero, start-one, start-is-unknown, start-unknown, start-other}
+use borrow.Author.Needs.{needs}
+use Rattle.simulate.proofs.start_value.Statement.{statement}
+use Rattle.simulate.proofs.start_value.Tie as tie
+
+row-place-requires : tie.Need-row-place-requires
+row-place-requires c κs = search needs
+
+add-second : tie.Need-add-second
+add-second c = search needs
+
+shared-slice-read-kind : tie.Need-shared-slice-read-kind
+shared-slice-read-kind c = search needs
+
+shared-slice-read-reset : tie.Need-shared-slice-read-reset
+shared-slice-read-reset c = search needs
+
+shared-slice-read-result : tie.Need-shared-slice-read-result
+shared-slice-read-result c = c .before .before .before .before .before .before .before .before .pre .1 .0 (search start-is-unknown)
+
+returns : tie.Need-returns
+returns c = search start-zero
+
+returns-2 : tie.Need-returns-2
+returns-2 c = search start-one
+
+returns-3 : tie.Need-returns-3
+returns-3 c = search start-unknown
+
+returns-4 : tie.Need-returns-4
+returns-4 c = search start-other
+
+pub start-value-spec : {M : Type 1} → statement M
+start-value-spec =
+    tie.close
+    (tie.spec
+    row-place-requires
+    add-second
+    shared-slice-read-kind
+    shared-slice-read-reset
+    shared-slice-read-result
+    returns
+    returns-2
+    returns-3
+    returns-4)

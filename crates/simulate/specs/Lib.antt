@@ -1,0 +1,3 @@
+-- Values in lent memory, and what the steps of a run are given and leave.
+pub mod Values
+pub mod Steps
