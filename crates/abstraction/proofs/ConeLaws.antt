@@ -17,7 +17,7 @@ use Rattle.abstraction.specs.Compaction.{faninNodes, isConeRoot, isMarke
 use Rattle.abstraction.proofs.CompactionLaws.{AllMarked, ClosedUnderFanin, marked-lt}
 
 -- Every mark of m is one of m′.
-abbrev MarksOf : List Bool → List Bool → Type 0
+abbrev pub MarksOf : List Bool → List Bool → Type 0
 MarksOf m m′ = (j : ℕ) → isMarked m j ≡ true → isMarked m′ j ≡ true
 
 abbrev pub EachBelow : ℕ → List ℕ → Type 0
@@ -30,7 +30,7 @@ set-keeps m j x h = elim (ℕ-discrete x j) [
   | no e ↦ getD-set-other m j x true false e ∙ h
 ]
 
-markAll-keeps : (m : List Bool) (js : List ℕ) → MarksOf m (markAll m js)
+pub markAll-keeps : (m : List Bool) (js : List ℕ) → MarksOf m (markAll m js)
 markAll-keeps m [] x h = h
 markAll-keeps m (j ∷ js) x h = markAll-keeps (set m j true) js x (set-keeps m j x h)
 
@@ -38,11 +38,11 @@ markAll-length : (m : List Bool) (js : List ℕ) → length (markAll m js) ≡ l
 markAll-length m [] = refl
 markAll-length m (j ∷ js) = markAll-length (set m j true) js ∙ length-set m j true
 
-all-keep : (m m′ : List Bool) → MarksOf m m′ → (js : List ℕ) → AllMarked m js → AllMarked m′ js
+pub all-keep : (m m′ : List Bool) → MarksOf m m′ → (js : List ℕ) → AllMarked m js → AllMarked m′ js
 all-keep m m′ s [] h = tt
 all-keep m m′ s (j ∷ js) h = (s j (h .0), all-keep m m′ s js (h .1))
 
-markAll-marks : (m : List Bool) (js : List ℕ) → EachBelow (length m) js → AllMarked (markAll m js) js
+pub markAll-marks : (m : List Bool) (js : List ℕ) → EachBelow (length m) js → AllMarked (markAll m js) js
 markAll-marks m [] h = tt
 markAll-marks m (j ∷ js) h =
     (markAll-keeps (set m j true) js j (getD-set-same m j true false (h .0)), markAll-marks (set m j true) js (rw (length-set m j true) (h .1)))
@@ -231,6 +231,42 @@ root-in : (rows : List Row) (j : ℕ) → isMarked (map isConeRoot rows) j ≡ t
 root-in [] j h = absurd (false≢true h)
 root-in (r ∷ rows) zero h = (omega arith, h)
 root-in (r ∷ rows) (suc j) h = let k = root-in rows j h in (omega (arith, k .0), k .1)
+
+-- ---- the cone is the least marks that have the roots and are closed
+
+set-within : (m c : List Bool) (j : ℕ) → MarksOf m c → isMarked c j ≡ true → MarksOf (set m j true) c
+set-within m c j s h x k = elim (ℕ-discrete x j) [
+  | yes e ↦ rw e h
+  | no e ↦ s x (sym (getD-set-other m j x true false e) ∙ k)
+]
+
+pub markAll-within : (m c : List Bool) (js : List ℕ) → MarksOf m c → AllMarked c js → MarksOf (markAll m js) c
+markAll-within m c [] s a = s
+markAll-within m c (j ∷ js) s a = markAll-within (set m j true) c js (set-within m c j s (a .0)) (a .1)
+
+module _ (rows : List Row) (c : List Bool) (closed : ClosedUnderFanin rows c) where
+  sweep-within : (n : ℕ) → n ≤ length rows → (m : List Bool) → MarksOf m c → MarksOf (markSweep rows n m) c
+  unfolding markSweep
+  sweep-within zero b m s = s
+  sweep-within (suc n) b m s =
+      sweep-within n (omega arith) (touch rows n m)
+      (cond-case (λ x. MarksOf x c) (isMarked m n) _ _ (λ e. markAll-within m c (faninNodes (rowAt rows n)) s (closed n (omega arith) (s n e))) (λ _. s))
+
+  fixpoint-within : (f : ℕ) (m : List Bool) → MarksOf m c → MarksOf (markFixpoint rows f m) c
+  unfolding markFixpoint
+  fixpoint-within zero m s = s
+  fixpoint-within (suc f) m s = go (equalMarks m m′) (fixpoint-within f m′ (sweep-within (length rows) (omega arith) m s))
+    where
+      m′ : List Bool
+      m′ = markSweep rows (length rows) m
+
+      go : (t : Bool) → MarksOf (markFixpoint rows f m′) c → MarksOf (elim t [ true ↦ m | false ↦ markFixpoint rows f m′ ]) c
+      go true q = s
+      go false q = q
+
+  pub cone-least : ((j : ℕ) → j < length rows → isConeRoot (rowAt rows j) ≡ true → isMarked c j ≡ true) → MarksOf (coneOfInfluence rows) c
+  unfolding coneOfInfluence
+  cone-least roots = fixpoint-within _ _ (λ j h. let k = root-in rows j h in roots j (k .0) (k .1))
 
 all-marked : (m : List Bool) (js : List ℕ) → AllMarked m js → (i : ℕ) → Among i js → isMarked m i ≡ true
 all-marked m (j ∷ js) a i here = a .0

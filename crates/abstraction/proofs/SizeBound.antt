@@ -22,10 +22,10 @@ use Rattle.abstraction.proofs.UnrollLaws.{unroll-keeps}
 use Rattle.abstraction.proofs.CompactionLaws.{compact-length}
 
 -- How many nodes a row can make in a phase, and how many outputs it gives.
-makes : Row → ℕ
+pub makes : Row → ℕ
 makes r = cond (isConeRoot r) 0 1
 
-gives : Row → ℕ
+pub gives : Row → ℕ
 gives r = cond (isOutput r) 1 0
 
 -- A row that a new node is made of can make one.
@@ -64,12 +64,12 @@ one-of (output _ _ _) = omega arith
 
 module _ (rows : List Row) where
   -- The sum of f over the first n rows.
-  total : (Row → ℕ) → ℕ → ℕ
+  pub total : (Row → ℕ) → ℕ → ℕ
   total f zero = 0
   total f (suc n) = total f n + f (rowAt rows n)
 
   -- Row 0 makes nothing, and each other row at most one.
-  total-one : rowAt rows 0 ≡ constant → (n : ℕ) → total makes (suc n) + total gives (suc n) ≤ n
+  pub total-one : rowAt rows 0 ≡ constant → (n : ℕ) → total makes (suc n) + total gives (suc n) ≤ n
   unfolding total makes gives
   total-one e zero = rw e (omega arith)
   total-one e (suc n) = omega (arith, total-one e n, one-of (rowAt rows (suc n)))
@@ -108,7 +108,7 @@ module _ (rows : List Row) where
           suc-mul k (total gives (length rows)),
         )
 
-    whole-bound : (N : ℕ) → length (unrolledNetlist clock rows N) ≤ 1 + N * (total makes (length rows) + total gives (length rows))
+    pub whole-bound : (N : ℕ) → length (unrolledNetlist clock rows N) ≤ 1 + N * (total makes (length rows) + total gives (length rows))
     unfolding unrolledNetlist total
     whole-bound N =
         omega (

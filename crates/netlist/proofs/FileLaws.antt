@@ -64,7 +64,7 @@ pub record FieldsFit (w : RowFields) : Type 0 where
   pub c-fits : w .c < 2 ^ 16
 
 -- What is written as row i is read again, if it fits.
-fields-read : (f : List ℕ) (i : ℕ) (w : RowFields) → FieldsFit w → ((d : ℕ) → d < 8 → byteAt f (rowOffset i + d) ≡ byteAt (fieldBytes w) d) → readFields f i ≡ w
+pub fields-read : (f : List ℕ) (i : ℕ) (w : RowFields) → FieldsFit w → ((d : ℕ) → d < 8 → byteAt f (rowOffset i + d) ≡ byteAt (fieldBytes w) d) → readFields f i ≡ w
 fields-read f i w t h =
     let byte : (d x : ℕ) → x ≡ rowOffset i + d → d < 8 → byteAt f x ≡ byteAt (fieldBytes w) d = λ d x q l. ap (byteAt f) q ∙ h d l in
     let a = u16-read f (rowOffset i + 2) (w .a) (t .a-fits) (h 2 (omega arith)) (byte 3 (rowOffset i + 2 + 1) (omega arith) (omega arith)) in

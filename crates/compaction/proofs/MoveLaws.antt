@@ -1,0 +1,183 @@
+-- Rows moved down in place: what stands in front after each of them, and the whole.
+-- Assumes nothing.
+use Prim.Native.Nat.{ℕ, suc, _+_, _*_, _<_, _≤_, _/_, _%_, _^_}
+use mathlib.Core.Path.{_≡_, refl, sym, ap, _∙_, subst}
+use mathlib.Core.Logic.{_≢_}
+use mathlib.Core.Bool.{Bool, true, false, cond}
+use mathlib.Core.List.{List, [], _∷_, _++_, append-nil}
+use native.Mathlib.Omega.{arith}
+use native.Mathlib.Numerals.{add-one}
+use lib.ListN.{length, set, length-append, List·getD-append}
+use lib.Seq.{sets, getD-at, ext-getD}
+use lib.Dec.{leb, ltb}
+use borrow.Author.Tests.{lt-ltb, le-ltb, le-leb, lt-leb}
+use Rattle.memory.specs.Fields.{byteAt, u16Bytes}
+use Rattle.memory.proofs.TestLaws.{last-or}
+use Rattle.memory.proofs.ListLaws.{tabulate-length, tabulate-at}
+use Rattle.memory.proofs.BufferLaws.{sets-join}
+use Rattle.netlist.specs.Limits.{mostFoldedRows, foldResultBytes}
+use Rattle.netlist.specs.Rows.{Row, RowFields, constant, encodeRow, decodeRow, rowAt, mapLiterals}
+use Rattle.netlist.specs.FileFormat.{rowOffset, readFields, fieldBytes, rowBytes}
+use Rattle.netlist.proofs.RowLaws.{decode-row}
+use Rattle.netlist.proofs.FileLaws.{fields-read}
+use Rattle.abstraction.specs.Compaction.{faninNodes, isMarked, coneOfInfluence, newIndex, renumberLiteral, compactUpTo, compact}
+use Rattle.abstraction.proofs.CompactionLaws.{renumbered, compact-length}
+use Rattle.abstraction.proofs.ConeLaws.{EachBelow}
+use Rattle.blockfile.specs.RowCode.{fieldsIn, Small}
+use Rattle.blockfile.specs.RowsStand.{RowsStand}
+use Rattle.compaction.specs.Compactable.{Compactable, heldRow, heldRows, HeldInside}
+use Rattle.compaction.specs.Slots.{slotAt, markAt, marksIn, bitOf, numberOf, Numbered}
+use Rattle.compaction.specs.Moves.{literalCount, renumberFields, renumberIn, moveRow, RowKept, Movable, MovedTo}
+use Rattle.compaction.proofs.KindLaws.{encode-map, map-same}
+use Rattle.compaction.proofs.SlotLaws.{sets-in, sets-out, bit-le, index-none, index-suc, index-le}
+
+-- ---- a row renumbered by the code
+
+-- Field number d of a row with k literals.
+abbrev Renumbered : List ℕ → ℕ → ℕ → ℕ → ℕ → Type 0
+Renumbered w d k x y = (y ≡ cond (ltb d k) (renumberIn w x) x) × (y < 2 ^ 16)
+
+pub row-renumbered : (w : List ℕ) (count k r a b c a′ b′ c′ : ℕ) → count ≡ literalCount k → Renumbered w 0 count a a′ → Renumbered w 1 count b b′ → Renumbered w 2 count c c′
+    → (fieldsIn (record { kind = k; reset = r; a = a′; b = b′; c = c′ }) ≡ renumberFields (renumberIn w) (record { kind = k; reset = r; a = a; b = b; c = c })) × Small (record { kind = k; reset = r; a = a′; b = b′; c = c′ })
+row-renumbered w count k r a b c a′ b′ c′ e x y z = (rw (x .0, y .0, z .0, e), record { a-small = x .1; b-small = y .1; c-small = z .1 })
+
+-- ---- a row's eight bytes
+
+-- Two rows' places do not meet.
+place-apart : (i j d : ℕ) → i ≢ j → d < 8 → rowOffset i ≤ rowOffset j + d → rowOffset j + d < rowOffset i + 8 → ⊥
+place-apart i j d n h a b = n (omega arith)
+
+-- The bytes written one after the other.
+pub row-written : (f f₁ f₂ f₃ : List ℕ) (q k r a b c : ℕ) → f₁ ≡ sets (set (set f q k) (q + 1) r) (q + 2) (u16Bytes a) → f₂ ≡ sets f₁ (q + 4) (u16Bytes b) → f₃ ≡ sets f₂ (q + 6) (u16Bytes c)
+    → f₃ ≡ sets f q (fieldBytes (record { kind = k; reset = r; a = a; b = b; c = c }))
+row-written f f₁ f₂ f₃ q k r a b c e₁ e₂ e₃ =
+    let g₁ : f₁ ≡ sets f q (k ∷ r ∷ u16Bytes a) = e₁ ∙ rw (add-one q) (sets-join (k ∷ r ∷ []) (u16Bytes a) f q) in
+    let g₂ : f₂ ≡ sets f q (k ∷ r ∷ u16Bytes a ++ u16Bytes b) = e₂ ∙ rw g₁ (sets-join (k ∷ r ∷ u16Bytes a) (u16Bytes b) f q) in
+    e₃ ∙ rw g₂ (sets-join (k ∷ r ∷ u16Bytes a ++ u16Bytes b) (u16Bytes c) f q)
+
+-- ---- rows that stand
+
+stand-more : (f : List ℕ) (rs : List Row) (r : Row) → length rs < mostFoldedRows → foldResultBytes ≤ length f → RowsStand rs f → RowsStand (rs ++ (r ∷ [])) (sets f (rowOffset (length rs)) (rowBytes r))
+stand-more f rs r few room s i d h l =
+    last-or i (length rs) (omega (arith, length-append rs (r ∷ [])))
+    (λ b. sets-out (rowBytes r) f (rowOffset (length rs)) (rowOffset i + d) (place-apart (length rs) i d (λ q. omega arith) l)
+    ∙ s i d b l ∙ ap (λ x. byteAt (rowBytes x) d) (sym (List·getD-append rs (r ∷ []) constant i b)))
+    (λ q. subst (λ (x : ℕ). byteAt (sets f (rowOffset (length rs)) (rowBytes r)) (rowOffset x + d) ≡ byteAt (rowBytes (rowAt (rs ++ (r ∷ [])) x)) d) (sym q)
+    (sets-in (rowBytes r) f (rowOffset (length rs)) d l (omega arith) ∙ ap (λ x. byteAt (rowBytes x) d) (sym (getD-at rs r [] constant (length rs) refl))))
+
+-- Rows that stand are read as they are.
+pub held-are : (f : List ℕ) (n : ℕ) (rs : List Row) → length rs ≡ n → RowsStand rs f → Compactable rs → heldRows f n ≡ rs
+held-are f n rs size s c =
+    ext-getD constant (heldRows f n) rs (tabulate-length n (heldRow f) ∙ sym size) (λ i h.
+    let l : i < n = rw (tabulate-length n (heldRow f)) at h in
+    let k : i < length rs = rw size l in
+    tabulate-at n (heldRow f) i constant l ∙ ap decodeRow (fields-read f i (encodeRow (rowAt rs i)) (c .fits i k) (λ d. s i d k)) ∙ decode-row (rowAt rs i))
+
+-- ---- rows moved
+
+module _ (f f′ w : List ℕ) (i t : ℕ) where
+  pub kept-yes : markAt w i ≡ true → f′ ≡ moveRow f w i t → RowKept f w i t f′ (t + 1)
+  kept-yes e h = record { bytes = h ∙ rw e; count = rw e }
+
+pub kept-no : (f w : List ℕ) (i t : ℕ) → markAt w i ≡ false → RowKept f w i t f t
+kept-no f w i t e = record { bytes = rw e; count = rw e (omega arith) }
+
+-- Of the n rows in f₀ the first i are moved, t of them to the front; the later ones still stand.
+pub record Moving (f₀ f w : List ℕ) (n i t : ℕ) : Type 0 where
+  pub low : t ≤ i
+  pub rest : (j d : ℕ) → i ≤ j → j < n → d < 8 → byteAt f (rowOffset j + d) ≡ byteAt f₀ (rowOffset j + d)
+  pub moved : MovedTo f₀ w n i f t
+
+pub moving-none : (f w : List ℕ) (n : ℕ) → Moving f f w n 0 0
+moving-none f w n = record {
+  low = omega arith;
+  rest = λ j d a b l. refl;
+  moved = λ rs m G. (sym (index-none m), λ i d h l. absurd (omega (arith, compact-length rs m 0, index-none m)));
+}
+
+module _ (f₀ f f′ w : List ℕ) (n i t t′ : ℕ) (h : i < n) (few : n ≤ mostFoldedRows) (room : foldResultBytes ≤ length f) (M : Moving f₀ f w n i t) (K : RowKept f w i t f′ t′) where
+  rest-more : (j d : ℕ) → i + 1 ≤ j → j < n → d < 8 → byteAt f′ (rowOffset j + d) ≡ byteAt f₀ (rowOffset j + d)
+  rest-more j d a b l = rw (K .bytes) (go (markAt w i))
+    where
+      go : (x : Bool) → byteAt (cond x (moveRow f w i t) f) (rowOffset j + d) ≡ byteAt f₀ (rowOffset j + d)
+      go true =
+          sets-out (fieldBytes (renumberFields (renumberIn w) (readFields f i))) f (rowOffset t) (rowOffset j + d) (place-apart t j d (λ q. omega (arith, M .low)) l)
+          ∙ M .rest j d (omega arith) b l
+      go false = M .rest j d (omega arith) b l
+
+  module _ (rs : List Row) (m : List Bool) (G : Movable f₀ w n rs m) where
+    mark-is : markAt w i ≡ isMarked m i
+    mark-is = go (isMarked m i) refl
+      where
+        go : (x : Bool) → isMarked m i ≡ x → markAt w i ≡ x
+        go true e = le-leb (2 ^ 15) (slotAt w i) (omega (arith, G .numbers i h, ap bitOf e))
+        go false e = lt-leb (2 ^ 15) (slotAt w i) (omega (arith, G .numbers i h, ap bitOf e, index-le m i))
+
+    renumber-is : (l : ℕ) → l / 2 < n → renumberIn w l ≡ renumberLiteral m l
+    renumber-is l b =
+        let d : l / 2 % 2 ^ 13 ≡ l / 2 = omega arith in
+        let e : slotAt w (l / 2) % 2 ^ 15 ≡ newIndex m (l / 2) = omega (arith, G .numbers (l / 2) b, index-le m (l / 2)) in
+        rw (d, e)
+
+    inside : i < length rs
+    inside = rw (G .size) h
+
+    fields-are : readFields f i ≡ encodeRow (rowAt rs i)
+    fields-are = fields-read f i (encodeRow (rowAt rs i)) (G .right .fits i inside) (λ d l. M .rest i d (omega arith) h l ∙ G .stand i d inside l)
+
+    row-is : fieldBytes (renumberFields (renumberIn w) (readFields f i)) ≡ rowBytes (renumbered m (rowAt rs i))
+    row-is =
+        ap fieldBytes (ap (renumberFields (renumberIn w)) fields-are
+        ∙ sym (encode-map (renumberIn w) (rowAt rs i))
+        ∙ ap encodeRow (map-same (renumberIn w) (renumberLiteral m) n renumber-is (rowAt rs i) (rw (G .size) at (G .right .inside i inside))))
+
+    before : RowsStand (compactUpTo rs m i) f
+    before = M .moved rs m G .1
+
+    place : t ≡ length (compactUpTo rs m i)
+    place = M .moved rs m G .0 ∙ sym (compact-length rs m i)
+
+    moved-bytes : sets f (rowOffset (length (compactUpTo rs m i))) (rowBytes (renumbered m (rowAt rs i))) ≡ moveRow f w i t
+    moved-bytes = ap (λ x. sets f (rowOffset x) (rowBytes (renumbered m (rowAt rs i)))) (sym place) ∙ ap (sets f (rowOffset t)) (sym row-is)
+
+    rows-next : compactUpTo rs m (i + 1) ≡ compactUpTo rs m i ++ cond (isMarked m i) (renumbered m (rowAt rs i) ∷ []) []
+    unfolding compactUpTo
+    rows-next = ap (compactUpTo rs m) (add-one i)
+
+    bytes-next : f′ ≡ cond (isMarked m i) (moveRow f w i t) f
+    bytes-next = K .bytes ∙ ap (λ x. cond x (moveRow f w i t) f) mark-is
+
+    stand-next : RowsStand (compactUpTo rs m (i + 1)) f′
+    stand-next = subst (λ (x : List Row). RowsStand x f′) (sym rows-next) (subst (RowsStand (compactUpTo rs m i ++ cond (isMarked m i) (renumbered m (rowAt rs i) ∷ []) [])) (sym bytes-next) (go (isMarked m i)))
+      where
+        go : (x : Bool) → RowsStand (compactUpTo rs m i ++ cond x (renumbered m (rowAt rs i) ∷ []) []) (cond x (moveRow f w i t) f)
+        go true =
+            subst (RowsStand (compactUpTo rs m i ++ (renumbered m (rowAt rs i) ∷ []))) moved-bytes
+            (stand-more f (compactUpTo rs m i) (renumbered m (rowAt rs i)) (omega (arith, place, M .low)) room before)
+        go false = subst (λ (xs : List Row). RowsStand xs f) (sym (append-nil (compactUpTo rs m i))) before
+
+    moved-next : (t′ ≡ newIndex m (i + 1)) × RowsStand (compactUpTo rs m (i + 1)) f′
+    moved-next = (rw (add-one i) (omega (arith, K .count, M .moved rs m G .0, index-suc m i, ap bitOf mark-is)), stand-next)
+
+  pub moving-next : Moving f₀ f′ w n (i + 1) t′
+  moving-next = record { low = omega (arith, K .count, M .low, bit-le (markAt w i)); rest = rest-more; moved = moved-next }
+
+pub moving-done : (f₀ f w : List ℕ) (n i t : ℕ) → i ≤ n → n ≤ i → Moving f₀ f w n i t → MovedTo f₀ w n n f t
+moving-done f₀ f w n i t h k M = let e : i ≡ n = omega arith in subst (λ (x : ℕ). MovedTo f₀ w n x f t) e (M .moved)
+
+-- ---- the whole
+
+pub compact-is : (f f′ w : List ℕ) (n r : ℕ) → (HeldInside f n → Numbered w n (coneOfInfluence (heldRows f n))) → MovedTo f w n n f′ r
+    → (rs : List Row) → length rs ≡ n → RowsStand rs f → Compactable rs → (r ≡ length (compact rs)) × RowsStand (compact rs) f′
+unfolding compact
+compact-is f f′ w n r numbers moved rs size s c =
+    let held = held-are f n rs size s c in
+    let inside : HeldInside f n = λ j h.
+    let l : j < length rs = rw size h in
+    let q : heldRow f j ≡ rowAt rs j = sym (tabulate-at n (heldRow f) j constant h) ∙ ap (λ x. rowAt x j) held in
+    rw (q, ← size) (c .inside j l)
+    in
+    let m = coneOfInfluence rs in
+    let k = moved rs m (record { size = size; stand = s; right = c; numbers = subst (λ x. Numbered w n (coneOfInfluence x)) held (numbers inside) }) in
+    let e : compactUpTo rs m n ≡ compactUpTo rs m (length rs) = ap (compactUpTo rs m) (sym size) in
+    (k .0 ∙ sym (compact-length rs m n) ∙ ap length e, subst (λ (x : List Row). RowsStand x f′) e (k .1))

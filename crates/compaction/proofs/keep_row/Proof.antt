@@ -1,0 +1,36 @@
+-- `keep_row` meets its contract.
+-- Assumes nothing.
+use native.Mathlib.Omega.{arith}
+use borrow.Author.Needs.{needs}
+use Rattle.compaction.proofs.MoveLaws.{kept-yes, kept-no}
+use Rattle.compaction.proofs.SlotLaws.{mark-yes, mark-no}
+use Rattle.compaction.proofs.keep_row.Statement.{statement}
+use Rattle.compaction.proofs.keep_row.Tie as tie
+
+slot-at-requires : tie.Need-slot-at-requires
+slot-at-requires c κs = search needs
+
+returns : tie.Need-returns
+returns c =
+    let args = c .before .before .before .before .args in
+    kept-no (args .result .now) (args .slots .now) (args .row) (args .to) (mark-no (args .slots .now) (args .row) (omega (arith, c .before .slot-at .ensures .0)))
+
+move-row-requires : tie.Need-move-row-requires
+move-row-requires c κs = search needs
+
+add-result : tie.Need-add-result
+add-result c = search needs
+
+same-length : tie.Need-same-length
+same-length c = search needs
+
+returns-2 : tie.Need-returns-2
+returns-2 c =
+    let args = c .before .before .before .before .before .before .before .before .args in
+    let move-row = c .before .before .move-row in
+    kept-yes (args .result .now) (move-row .last .0) (args .slots .now) (args .row) (args .to) (mark-yes (args .slots .now) (args .row) (omega (arith, c .before .before .before .before .before .slot-at .ensures .0))) (move-row .ensures)
+
+pub keep-row-spec : {M : Type 1} → statement M
+keep-row-spec =
+    tie.close
+    (tie.spec slot-at-requires returns move-row-requires add-result same-length returns-2)

@@ -1,0 +1,21 @@
+-- `literal_image` reads a literal's image: that of its node, inverted if the literal is.
+-- Assumes nothing.
+use borrow.Author.Needs.{needs}
+use Rattle.fold.proofs.ImageWays.{literal-even, literal-odd}
+use Rattle.fold.proofs.unroll.literal_image.Statement.{statement}
+use Rattle.fold.proofs.unroll.literal_image.Tie as tie
+
+image-at-requires : tie.Need-image-at-requires
+image-at-requires c κs = search needs
+
+inverse-requires : tie.Need-inverse-requires
+inverse-requires c κs = search needs
+
+returns : tie.Need-returns
+returns c = search literal-even
+
+returns-2 : tie.Need-returns-2
+returns-2 c = search literal-odd
+
+pub literal-image-spec : {M : Type 1} → statement M
+literal-image-spec = tie.close (tie.spec image-at-requires inverse-requires returns returns-2)

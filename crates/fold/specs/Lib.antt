@@ -1,0 +1,2 @@
+-- The stages of the fold in memory.
+pub mod UnrollMap

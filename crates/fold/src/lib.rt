@@ -1,0 +1,2 @@
+// The fold, stage by stage.
+pub mod unroll;

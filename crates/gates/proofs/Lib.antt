@@ -1,0 +1,2 @@
+-- Laws of the gates in code.
+pub mod RuleWays

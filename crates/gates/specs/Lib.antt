@@ -1,0 +1,2 @@
+-- The code's images.
+pub mod ImageCode

@@ -1,0 +1,2 @@
+-- The stages of the lasso in the work memory.
+pub mod WorkMap

@@ -1,0 +1,1 @@
+// The lasso, the periods, the phase count and the clocks.

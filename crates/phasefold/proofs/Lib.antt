@@ -1,0 +1,3 @@
+-- Laws of the operations' answers.
+pub mod AnswerLaws
+pub mod ShowLaws

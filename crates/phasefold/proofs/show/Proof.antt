@@ -1,0 +1,118 @@
+-- `phasefold::show` shows the part of an accepted block, and says the refusal otherwise.
+-- Assumes nothing.
+use Prim.Native.Nat.{_+_, _-_, _*_}
+use native.Mathlib.Omega.{arith}
+use Rattle.phasefold.proofs.ShowLaws.{block-shown, block-missing, file-refused}
+use borrow.Author.Needs.{needs}
+use Rattle.phasefold.proofs.show.Statement.{statement}
+use Rattle.phasefold.proofs.show.Tie as tie
+use Rattle.phasefold.proofs.show.Reads as reads
+use Rattle.phasefold.proofs.show.Lts as lts
+use Rattle.accept.proofs.accept.Reads as accept-reads
+use Rattle.phasefold.proofs.number_in.Reads as number-in-reads
+use Rattle.phasefold.proofs.place_in.Reads as place-in-reads
+
+-- src/lib.rt:72:11
+accept-requires : tie.Need-accept-requires
+accept-requires c κs = search needs
+
+-- src/lib.rt:74:26
+enum-told : tie.Need-enum-told
+enum-told c = search needs
+
+-- src/lib.rt:79:29
+mul-start : tie.Need-mul-start
+mul-start c = search needs
+
+-- src/lib.rt:79:29
+add-start : tie.Need-add-start
+add-start c = search needs
+
+-- src/lib.rt:80:27
+add-end : tie.Need-add-end
+add-end c = search needs
+
+-- src/lib.rt:81:17
+sub-result : tie.Need-sub-result
+sub-result c = search needs
+
+-- src/lib.rt:81:17
+part-result-start : tie.Need-part-result-start
+part-result-start c = search needs
+
+-- src/lib.rt:81:17
+part-result-end : tie.Need-part-result-end
+part-result-end c = search needs
+
+-- src/lib.rt:85:17
+sub-result-2 : tie.Need-sub-result-2
+sub-result-2 c = search needs
+
+-- src/lib.rt:85:17
+part-result-start-2 : tie.Need-part-result-start-2
+part-result-start-2 c = search needs
+
+-- src/lib.rt:85:17
+part-result-end-2 : tie.Need-part-result-end-2
+part-result-end-2 c = search needs
+
+-- src/lib.rt:88:29
+enum-known-refusal : tie.Need-enum-known-refusal
+enum-known-refusal c = search needs
+
+-- src/lib.rt:89:23
+number-in-requires : tie.Need-number-in-requires
+number-in-requires c κs = search needs
+
+-- src/lib.rt:90:22
+place-in-requires : tie.Need-place-in-requires
+place-in-requires c κs = search needs
+
+-- src/lib.rt:91:13
+sub-result-3 : tie.Need-sub-result-3
+sub-result-3 c = search needs
+
+-- src/lib.rt:91:13
+part-result-start-3 : tie.Need-part-result-start-3
+part-result-start-3 c = search needs
+
+-- src/lib.rt:91:13
+part-result-end-3 : tie.Need-part-result-end-3
+part-result-end-3 c = search needs
+
+-- src/lib.rt:69:1
+returns : tie.Need-returns
+returns c = block-shown (c .before .before .before .before .before .before .args .file .now) (c .before .before .before .before .before .before .args .block) (c .before .before .before .before .accept .result) (c .before .before .before .before .accept .ensures) (512 * c .before .before .before .before .before .before .args .block + 4 + 504 - (512 * c .before .before .before .before .before .before .args .block + 4)) (omega arith) (c .before .before .enum-told .given .1) (c .before .if1 .taken)
+
+-- src/lib.rt:69:1
+returns-2 : tie.Need-returns-2
+returns-2 c = block-missing (c .before .before .before .before .before .before .args .file .now) (c .before .before .before .before .before .before .args .block) (c .before .before .before .before .accept .result) (c .before .before .before .before .accept .ensures) (c .before .before .enum-told .given .1) (c .before .if1 .left)
+
+-- src/lib.rt:69:1
+returns-3 : tie.Need-returns-3
+returns-3 c = file-refused (c .before .before .before .before .before .before .before .before .args .file .now) (c .before .before .before .before .before .before .before .before .args .block) (c .before .before .before .before .before .before .accept .result) (c .before .before .before .before .before .before .accept .ensures) (c .before .before .before .before .refusal .given .0 .0) (c .before .before .number-in .result) (c .before .place-in .result) (c .before .before .before .before .refusal .given .1) (c .before .before .number-in .ensures) (c .before .place-in .ensures)
+
+pub show-spec : {M : Type 1} → statement M
+show-spec =
+    tie.close
+    (tie.spec
+    accept-requires
+    enum-told
+    mul-start
+    add-start
+    add-end
+    sub-result
+    part-result-start
+    part-result-end
+    sub-result-2
+    part-result-start-2
+    part-result-end-2
+    enum-known-refusal
+    number-in-requires
+    place-in-requires
+    sub-result-3
+    part-result-start-3
+    part-result-end-3
+    returns
+    returns-2
+    returns-3)

@@ -1,0 +1,3 @@
+-- What the public operations promise.
+pub mod Answers
+pub mod Outcomes
