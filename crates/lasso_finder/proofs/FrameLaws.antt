@@ -1,0 +1,58 @@
+-- The memory but for a part of it, and a run of bytes put at a place.
+-- Assumes nothing.
+use Prim.Native.Nat.{ℕ, zero, suc, _+_, _<_, _≤_}
+use mathlib.Core.Path.{_≡_, refl, ap, _∙_}
+use mathlib.Core.List.{List, [], _∷_}
+use native.Mathlib.Omega.{arith}
+use native.Mathlib.Decide.{decLt}
+use native.Mathlib.Nat.{add-zero}
+use lib.ListN.{length, set, length-set}
+use lib.Seq.{sets, getD-set-same, getD-set-other}
+use Rattle.memory.specs.Fields.{byteAt}
+use Rattle.lasso_finder.specs.StateMap.{Kept}
+
+-- ---- bytes that stay
+
+pub kept-none : (lo hi : ℕ) (w : List ℕ) → Kept lo hi w w
+kept-none lo hi w = record { long = refl; under = λ x h. refl; over = λ x h. refl }
+
+pub kept-set : (lo hi p v : ℕ) (w : List ℕ) → lo ≤ p → p < hi → Kept lo hi w (set w p v)
+kept-set lo hi p v w a b = record {
+  long = length-set w p v;
+  under = λ x h. getD-set-other w p x v 0 (λ (e : x ≡ p). omega arith);
+  over = λ x h. getD-set-other w p x v 0 (λ (e : x ≡ p). omega arith);
+}
+
+pub kept-at : {lo hi : ℕ} {w w′ : List ℕ} → Kept lo hi w w′ → (x : ℕ) → (lo ≤ x → x < hi → ⊥) → byteAt w′ x ≡ byteAt w x
+kept-at {lo} {hi} K x n = elim (decLt x lo) [
+  | yes h ↦ K .under x h
+  | no h ↦ elim (decLt x hi) [ yes k ↦ absurd (n (omega arith) k) | no k ↦ K .over x (omega arith) ]
+]
+
+pub kept-wider : (lo hi : ℕ) {a b : ℕ} {w w′ : List ℕ} → Kept a b w w′ → lo ≤ a → b ≤ hi → Kept lo hi w w′
+kept-wider lo hi K a b = record { long = K .long; under = λ x h. K .under x (omega arith); over = λ x h. K .over x (omega arith) }
+
+-- Two parts, one after the other, within a third.
+pub kept-join : (lo hi : ℕ) {a b c d : ℕ} (w w′ w″ : List ℕ) → Kept a b w w′ → Kept c d w′ w″ → lo ≤ a → lo ≤ c → b ≤ hi → d ≤ hi → Kept lo hi w w″
+kept-join lo hi w w′ w″ K L a b c d = record {
+  long = L .long ∙ K .long;
+  under = λ x h. L .under x (omega arith) ∙ K .under x (omega arith);
+  over = λ x h. L .over x (omega arith) ∙ K .over x (omega arith);
+}
+
+-- ---- a run of bytes put at a place
+
+pub kept-sets : (lo hi : ℕ) (vs l : List ℕ) (i : ℕ) → lo ≤ i → i + length vs ≤ hi → Kept lo hi l (sets l i vs)
+kept-sets lo hi [] l i a b = kept-none lo hi l
+kept-sets lo hi (v ∷ vs) l i a b =
+    kept-join lo hi l (set l i v) (sets (set l i v) (suc i) vs) (kept-set lo hi i v l a (omega arith)) (kept-sets lo hi vs (set l i v) (suc i) (omega arith) (omega arith)) (omega arith) (omega arith) (omega arith) (omega arith)
+
+pub sets-at : (vs l : List ℕ) (i d : ℕ) → d < length vs → i + length vs ≤ length l → byteAt (sets l i vs) (i + d) ≡ byteAt vs d
+sets-at [] l i d h k = absurd (omega arith)
+sets-at (v ∷ vs) l i zero h k =
+    kept-sets (suc i) (suc i + length vs) vs (set l i v) (suc i) (omega arith) (omega arith) .under (i + 0) (omega arith)
+    ∙ ap (byteAt (set l i v)) (add-zero i) ∙ getD-set-same l i v 0 (omega arith)
+sets-at (v ∷ vs) l i (suc d) h k =
+    let e : i + suc d ≡ suc i + d = omega arith in
+    let n = kept-set i (suc i) i v l (omega arith) (omega arith) .long in
+    ap (byteAt (sets (set l i v) (suc i) vs)) e ∙ sets-at vs (set l i v) (suc i) d (omega arith) (omega arith)

@@ -1,0 +1,124 @@
+-- The memory's bytes as values of rows and as states of the three-valued run: each function's step from row to row.
+-- Assumes nothing.
+use Prim.Native.Nat.{ℕ, zero, suc, _+_, _-_, _*_, _<_, _≤_, _/_, _%_, _^_}
+use mathlib.Core.Path.{_≡_, refl, sym, ap, _∙_, subst}
+use mathlib.Core.Bool.{Bool, true, false, cond}
+use mathlib.Core.List.{List, [], _∷_, _++_}
+use native.Mathlib.Omega.{arith}
+use lib.ListN.{length, getD, set}
+use Rattle.memory.specs.Fields.{byteAt}
+use Rattle.ternary.specs.Ternary.{Ternary, X, not3, and3, xor3, mux3, codeOf, valueOf}
+use Rattle.ternary.proofs.RuleLaws.{value-of-code, code-below}
+use Rattle.netlist.specs.Limits.{mostOriginalRows, mostOriginalRegisters, foldWorkBytes, lastState}
+use Rattle.netlist.specs.Rows.{rowFromFields, decodeRow, isRegister}
+use Rattle.netlist.specs.Simulation.{ternaryLogic, rowValue}
+use Rattle.netlist.proofs.WellFormed.{OperandsBelow}
+use Rattle.blockfile.specs.RowCode.{fieldsIn}
+use Rattle.blockfile.specs.declared.Fields.{Fields}
+use Rattle.lasso_finder.specs.StateMap.{statePlace, valuePlace, codeAt, valueIn, Coded, literalIn, RowReady, rowIn, nextIn}
+use Rattle.lasso_finder.proofs.RegisterLaws.{reset-code}
+
+-- ---- codes
+
+pub code-of-value : (x : ℕ) → x < 3 → codeOf (valueOf x) ≡ x
+code-of-value zero h = refl
+code-of-value (suc zero) h = refl
+code-of-value (suc (suc zero)) h = refl
+code-of-value (suc (suc (suc x))) h = absurd (omega arith)
+
+-- r is the code of v, and so below 3.
+abbrev pub IsCode : ℕ → Ternary → Type 0
+IsCode r v = (r ≡ codeOf v) × (r < 3)
+
+is-code : (r : ℕ) (v : Ternary) → r ≡ codeOf v → IsCode r v
+is-code r v e = (e, rw e (code-below v))
+
+-- ---- a literal, and a gate of literals
+
+module _ (w : List ℕ) (l : ℕ) where
+  pub literal-plain : Coded w → l / 2 < mostOriginalRows → l % 2 ≡ 0 → IsCode (byteAt w (valuePlace (l / 2))) (literalIn w l)
+  literal-plain C h e = is-code _ (literalIn w l) (rw e (sym (code-of-value _ (C .code (l / 2) h))))
+
+  pub literal-inverse : (r : ℕ) → (l % 2 ≡ 0 → ⊥) → r ≡ codeOf (not3 (valueOf (byteAt w (valuePlace (l / 2))))) → IsCode r (literalIn w l)
+  literal-inverse r n h = let e : l % 2 ≡ 1 = omega (arith, odd (l % 2) n (omega arith)) in is-code r (literalIn w l) (rw e h)
+    where
+      odd : (b : ℕ) → (b ≡ 0 → ⊥) → b < 2 → b ≡ 1
+      odd zero n k = absurd (n refl)
+      odd (suc zero) n k = refl
+      odd (suc (suc b)) n k = absurd (omega arith)
+
+pub gate-of-two : (g : Ternary → Ternary → Ternary) (a b : Ternary) (x y r : ℕ) → IsCode x a → IsCode y b → r ≡ codeOf (g (valueOf x) (valueOf y)) → r ≡ codeOf (g a b)
+gate-of-two g a b x y r p q h = h ∙ rw (p .0, q .0, value-of-code a, value-of-code b) refl
+
+pub gate-of-three : (g : Ternary → Ternary → Ternary → Ternary) (a b c : Ternary) (x y z r : ℕ) → IsCode x a → IsCode y b → IsCode z c → r ≡ codeOf (g (valueOf x) (valueOf y) (valueOf z)) → r ≡ codeOf (g a b c)
+gate-of-three g a b c x y z r p q s h = h ∙ rw (p .0, q .0, s .0, value-of-code a, value-of-code b, value-of-code c) refl
+
+-- ---- a row, by kind
+
+module _ (w : List ℕ) (r : Fields) (base j : ℕ) (R : RowReady w r base j) where
+  operands-of : (k : ℕ) → r .kind ≡ k → OperandsBelow (R .bound) (rowFromFields k (r .reset) (r .a) (r .b) (r .c))
+  operands-of k e = rw e at (R .operands)
+
+  below : (l : ℕ) → l / 2 < R .bound → l / 2 < mostOriginalRows
+  below l h = let f = R .few in omega arith
+
+  pub and-asks : r .kind ≡ 3 → (r .a / 2 < mostOriginalRows) × ((r .b / 2 < mostOriginalRows) × Coded w)
+  and-asks e = let o = operands-of 3 e in (below (r .a) (o .0), (below (r .b) (o .1), R .coded))
+
+  pub xor-asks : r .kind ≡ 4 → (r .a / 2 < mostOriginalRows) × ((r .b / 2 < mostOriginalRows) × Coded w)
+  xor-asks e = let o = operands-of 4 e in (below (r .a) (o .0), (below (r .b) (o .1), R .coded))
+
+  pub mux-asks : r .kind ≡ 5 → (r .a / 2 < mostOriginalRows) × ((r .b / 2 < mostOriginalRows) × ((r .c / 2 < mostOriginalRows) × Coded w))
+  mux-asks e = let o = operands-of 5 e in (below (r .a) (o .0), (below (r .b) (o .1), (below (r .c) (o .2), R .coded)))
+
+  pub output-asks : r .kind ≡ 6 → (r .a / 2 < mostOriginalRows) × Coded w
+  output-asks e = (below (r .a) (operands-of 6 e), R .coded)
+
+  is-held : r .kind ≡ 2 → (j < mostOriginalRegisters) × (codeAt w base j < 3)
+  is-held e = R .held (ap (λ (k : ℕ). isRegister (rowFromFields k (r .reset) (r .a) (r .b) (r .c))) e)
+
+  pub register-asks : r .kind ≡ 2 → (base ≤ statePlace lastState) × ((j < mostOriginalRegisters) × (foldWorkBytes ≤ length w))
+  register-asks e = (R .base-small, (is-held e .0, R .coded .room))
+
+  pub row-register : (x : ℕ) → r .kind ≡ 2 → x ≡ codeAt w base j → x ≡ codeOf (rowIn w r base j)
+  row-register x e h = rw e (h ∙ sym (code-of-value (codeAt w base j) (is-held e .1)))
+
+  pub row-and : (x : ℕ) → r .kind ≡ 3 → x ≡ codeOf (and3 (literalIn w (r .a)) (literalIn w (r .b))) → x ≡ codeOf (rowIn w r base j)
+  row-and x e h = rw e h
+
+  pub row-xor : (x : ℕ) → r .kind ≡ 4 → x ≡ codeOf (xor3 (literalIn w (r .a)) (literalIn w (r .b))) → x ≡ codeOf (rowIn w r base j)
+  row-xor x e h = rw e h
+
+  pub row-mux : (x : ℕ) → r .kind ≡ 5 → x ≡ codeOf (mux3 (literalIn w (r .a)) (literalIn w (r .b)) (literalIn w (r .c))) → x ≡ codeOf (rowIn w r base j)
+  row-mux x e h = rw e h
+
+  pub row-output : (x : ℕ) → r .kind ≡ 6 → x ≡ codeOf (literalIn w (r .a)) → x ≡ codeOf (rowIn w r base j)
+  row-output x e h = rw e h
+
+  -- A kind above 6 is read as the constant.
+  pub row-rest : (r .kind ≡ 1 → ⊥) → (r .kind ≡ 2 → ⊥) → (r .kind ≡ 3 → ⊥) → (r .kind ≡ 4 → ⊥) → (r .kind ≡ 5 → ⊥) → (r .kind ≡ 6 → ⊥) → 0 ≡ codeOf (rowIn w r base j)
+  row-rest = by-kind (r .kind)
+    where
+      by-kind : (k : ℕ) → (k ≡ 1 → ⊥) → (k ≡ 2 → ⊥) → (k ≡ 3 → ⊥) → (k ≡ 4 → ⊥) → (k ≡ 5 → ⊥) → (k ≡ 6 → ⊥)
+          → 0 ≡ codeOf (rowValue ternaryLogic (valueOf (codeAt w base j)) (λ l p. X) (valueIn w) (rowFromFields k (r .reset) (r .a) (r .b) (r .c)))
+      by-kind zero a b c d e f = refl
+      by-kind (suc zero) a b c d e f = absurd (a refl)
+      by-kind (suc (suc zero)) a b c d e f = absurd (b refl)
+      by-kind (suc (suc (suc zero))) a b c d e f = absurd (c refl)
+      by-kind (suc (suc (suc (suc zero)))) a b c d e f = absurd (d refl)
+      by-kind (suc (suc (suc (suc (suc zero))))) a b c d e f = absurd (e refl)
+      by-kind (suc (suc (suc (suc (suc (suc zero)))))) a b c d e f = absurd (f refl)
+      by-kind (suc (suc (suc (suc (suc (suc (suc k))))))) a b c d e f = refl
+
+-- ---- a register's next code
+
+module _ (w : List ℕ) (r : Fields) (t : ℕ) where
+  pub next-reset : t ≡ 0 → r .reset ≤ 2 → IsCode (r .reset) (nextIn w r t)
+  next-reset e h = is-code (r .reset) (nextIn w r t) (rw e (reset-code (r .reset) h))
+
+  pub next-literal : (x : ℕ) → (t ≡ 0 → ⊥) → IsCode x (literalIn w (r .a)) → IsCode x (nextIn w r t)
+  next-literal x n h = subst (λ (u : ℕ). IsCode x (nextIn w r u)) (later t n) h
+    where
+      later : (t : ℕ) → (t ≡ 0 → ⊥) → suc (t - 1) ≡ t
+      later zero n = absurd (n refl)
+      later (suc t) n = omega arith

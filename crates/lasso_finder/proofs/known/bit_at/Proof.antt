@@ -1,0 +1,20 @@
+-- `bit_at` meets its contract: a bit below bit 8 loses nothing.
+-- Assumes nothing.
+use native.Mathlib.Omega.{arith}
+use Rattle.lasso_finder.proofs.KnownLaws.{bit-exact, bit-small}
+use borrow.Author.Needs.{needs}
+use Rattle.lasso_finder.proofs.known.bit_at.Statement.{statement}
+use Rattle.lasso_finder.proofs.known.bit_at.Tie as tie
+use Rattle.lasso_finder.proofs.known.bit_at.Reads as reads
+use Rattle.lasso_finder.proofs.known.bit_at.Lts as lts
+
+-- src/known.rt:23:5
+shl-result : tie.Need-shl-result
+shl-result c = search needs
+
+-- src/known.rt:19:1
+returns : tie.Need-returns
+returns c = let e = bit-exact (c .args .code) (c .args .k) (c .pre .0) (c .pre .1) in let s = bit-small (c .args .code) (c .args .k) (c .pre .0) in (e, omega arith)
+
+pub bit-at-spec : {M : Type 1} → statement M
+bit-at-spec = tie.close (tie.spec shl-result returns)

@@ -1,0 +1,74 @@
+-- `best_phases` meets its contract. The loop's invariant: `best` is the best of 1 to `tried`, and `most` its count.
+-- Assumes nothing.
+use native.Mathlib.Omega.{arith}
+use mathlib.Core.Path.{_≡_, refl, ap, _∙_}
+use Prim.Native.Nat.{_-_, _≤_}
+use Rattle.netlist.specs.Limits.{mostPhases}
+use Rattle.lasso.specs.Generators.{usedCount, bestPhaseCount}
+use Rattle.lasso_finder.specs.Stages.{periodBytes}
+use Rattle.lasso_finder.proofs.CountLaws.{best-start, best-more}
+use borrow.Author.Needs.{needs}
+use Rattle.lasso_finder.proofs.periods.best_phases.Statement.{statement}
+use Rattle.lasso_finder.proofs.periods.best_phases.Tie as tie
+use Rattle.lasso_finder.proofs.periods.best_phases.Reads as reads
+use Rattle.lasso_finder.proofs.periods.best_phases.Lts as lts
+use Rattle.lasso_finder.proofs.periods.choose.Reads as choose-reads
+use Rattle.lasso_finder.proofs.periods.count_used.Reads as count-used-reads
+
+abbrev Inv-counts : tie.InvT-counts
+Inv-counts work rows best₀ most₀ tried₀ best most tried = ((1 ≤ tried) × (tried ≤ mostPhases)) × ((best ≡ bestPhaseCount (periodBytes work rows) tried) × (most ≡ usedCount (periodBytes work rows) best))
+
+abbrev μ-counts : tie.MeasureT-counts
+μ-counts work rows best₀ most₀ tried₀ best most tried = mostPhases - tried
+
+-- src/periods.rt:171:9
+count-used-requires : tie.Need-count-used-requires Inv-counts μ-counts
+count-used-requires c κs = (c .before .pre)
+
+-- src/periods.rt:173:5
+counts-holds : tie.Need-counts-holds Inv-counts μ-counts
+counts-holds c = ((omega arith, omega arith), (best-start (periodBytes (c .before .before .args .work .now) (c .before .before .args .rows)), (c .count-used .ensures)))
+
+-- src/periods.rt:174:17
+add-n : tie.Need-add-n Inv-counts μ-counts
+add-n c = omega arith
+
+-- src/periods.rt:175:13
+count-used-requires-2 : tie.Need-count-used-requires-2 Inv-counts μ-counts
+count-used-requires-2 c κs = (c .before .before .before .before .pre)
+
+-- src/periods.rt:177:9
+choose-requires : tie.Need-choose-requires Inv-counts μ-counts
+choose-requires c κs = search needs
+
+-- src/periods.rt:178:9
+choose-requires-2 : tie.Need-choose-requires-2 Inv-counts μ-counts
+choose-requires-2 c κs = search needs
+
+-- src/periods.rt:173:5
+counts-less : tie.Need-counts-less Inv-counts μ-counts
+counts-less c = omega arith
+
+-- src/periods.rt:173:5
+counts-again : tie.Need-counts-again Inv-counts μ-counts
+counts-again c = ((omega arith, omega arith), best-more (periodBytes (c .before .before .before .before .before .before .before .args .work .now) (c .before .before .before .before .before .before .before .args .rows)) (c .before .before .before .before .counts .tried) (c .before .before .before .before .counts .best) (c .before .before .before .before .counts .most) (c .before .before .count-used2 .result) (c .before .choose .result) (c .choose2 .result) (c .before .before .before .before .counts .inv .1 .0) (c .before .before .before .before .counts .inv .1 .1) (c .before .before .count-used2 .ensures) (c .before .choose .ensures) (c .choose2 .ensures))
+
+-- src/periods.rt:166:1
+returns : tie.Need-returns Inv-counts μ-counts
+returns c = let e : (c .before .counts .tried) ≡ mostPhases = omega arith in (c .before .counts .inv .1 .0) ∙ ap (bestPhaseCount (periodBytes (c .before .before .before .before .args .work .now) (c .before .before .before .before .args .rows))) e
+
+pub best-phases-spec : {M : Type 1} → statement M
+best-phases-spec =
+    tie.close
+    (tie.spec
+    Inv-counts
+    μ-counts
+    count-used-requires
+    counts-holds
+    add-n
+    count-used-requires-2
+    choose-requires
+    choose-requires-2
+    counts-less
+    counts-again
+    returns)

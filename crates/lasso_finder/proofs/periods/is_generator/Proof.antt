@@ -1,0 +1,30 @@
+-- `is_generator` meets its contract.
+-- Assumes nothing.
+use mathlib.Core.Path.{refl}
+use Prim.Native.Nat.{_%_}
+use borrow.Author.Tests.{eq-eqb, ne-eqb}
+use borrow.Author.Needs.{needs}
+use Rattle.lasso_finder.proofs.periods.is_generator.Statement.{statement}
+use Rattle.lasso_finder.proofs.periods.is_generator.Tie as tie
+use Rattle.lasso_finder.proofs.periods.is_generator.Reads as reads
+use Rattle.lasso_finder.proofs.periods.is_generator.Lts as lts
+use Rattle.lasso_finder.proofs.periods.repeats.Reads as repeats-reads
+
+-- src/periods.rt:66:8
+rem-if1 : tie.Need-rem-if1
+rem-if1 c = search needs
+
+-- src/periods.rt:67:9
+repeats-requires : tie.Need-repeats-requires
+repeats-requires c κs = search needs
+
+-- src/periods.rt:67:9
+returns : tie.Need-returns
+returns c = rw (eq-eqb ((c .before .before .before .args .cycle) % (c .before .before .before .args .p)) 0 (c .before .if1 .taken)) (c .repeats .ensures)
+
+-- src/periods.rt:61:1
+returns-2 : tie.Need-returns-2
+returns-2 c = rw (ne-eqb ((c .before .before .args .cycle) % (c .before .before .args .p)) 0 (c .if1 .left)) refl
+
+pub is-generator-spec : {M : Type 1} → statement M
+is-generator-spec = tie.close (tie.spec rem-if1 repeats-requires returns returns-2)

@@ -1,0 +1,134 @@
+-- `find_lasso` meets its contract. The outer invariant: states 0 to m - 1 all differ, and stand in the memory; the inner one: none of states 0 to k - 1 equals state m.
+-- Assumes nothing.
+use native.Mathlib.Omega.{arith}
+use mathlib.Core.Path.{_≡_, refl, sym, _∙_, subst}
+use Prim.Native.Nat.{suc, _-_, _≤_}
+use Rattle.netlist.specs.FileFormat.{netlistOf}
+use Rattle.netlist.specs.Limits.{lastState}
+use Rattle.lasso_finder.specs.Stages.{LassoDone}
+use Rattle.lasso_finder.proofs.SearchLaws.{Unlike, Sought, unlike-more, start-part, sought-start, sought-never, sought-next, sought-found, same-asks, repeat-is}
+use borrow.Author.Needs.{needs}
+use Rattle.lasso_finder.proofs.search.find_lasso.Statement.{statement}
+use Rattle.lasso_finder.proofs.search.find_lasso.Tie as tie
+use Rattle.lasso_finder.proofs.search.find_lasso.Reads as reads
+use Rattle.lasso_finder.proofs.search.find_lasso.Lts as lts
+use Rattle.lasso_finder.proofs.search.same_state.Reads as same-state-reads
+use Rattle.lasso_finder.proofs.states.advance.Reads as advance-reads
+use Rattle.lasso_finder.proofs.states.pack.Reads as pack-reads
+use Rattle.lasso_finder.proofs.states.state_place.Reads as state-place-reads
+
+abbrev Inv-history : tie.InvT-history
+Inv-history file rows work registers words answer₀ m new k₀ answer k = (k ≤ m) × ((answer ≡ answer₀) × Unlike (netlistOf file) m k)
+
+abbrev μ-history : tie.MeasureT-history
+μ-history file rows work registers words answer₀ m new k₀ answer k = m - k
+
+abbrev Inv-states : tie.InvT-states
+Inv-states file rows work₀ registers words answer₀ m₀ work answer m = Sought (netlistOf file) work₀ work m × (answer ≡ answer₀)
+
+abbrev μ-states : tie.MeasureT-states
+μ-states file rows work₀ registers words answer₀ m₀ work answer m = suc lastState - m
+
+-- src/search.rt:53:9
+pack-requires : tie.Need-pack-requires Inv-history μ-history Inv-states μ-states
+pack-requires c κs = ((c .before .before .before .pre .0), (omega arith, start-part (netlistOf (c .before .before .before .args .file .now)) (c .before .before .before .args .work .now) (c .before .before .before .pre .1)))
+
+-- src/search.rt:54:18
+add-words : tie.Need-add-words Inv-history μ-history Inv-states μ-states
+add-words c = let e = (c .before .before .pack .ensures .0) in let few = (c .before .before .before .before .before .before .pre .0 .registers) in omega arith
+
+-- src/search.rt:57:5
+states-holds : tie.Need-states-holds Inv-history μ-history Inv-states μ-states
+states-holds c = (sought-start (c .before .before .before .before .before .before .pre .0 .count) (c .before .before .before .before .before .before .pre .1) (c .before .before .pack .ensures .1 .0) (c .before .before .pack .ensures .1 .1), refl)
+
+-- src/search.rt:58:9
+advance-requires : tie.Need-advance-requires Inv-history μ-history Inv-states μ-states
+advance-requires c κs = ((c .before .before .before .before .before .before .before .before .before .pre .0), ((c .before .before .states .inv .0 .from), (omega arith, (c .before .before .states .inv .0 .searched))))
+
+-- src/search.rt:59:13
+state-place-requires : tie.Need-state-place-requires Inv-history μ-history Inv-states μ-states
+state-place-requires c κs = omega arith
+
+-- src/search.rt:61:9
+history-holds : tie.Need-history-holds Inv-history μ-history Inv-states μ-states
+history-holds c = (omega arith, (refl, λ x h. absurd (omega arith)))
+
+-- src/search.rt:62:17
+state-place-requires-2 : tie.Need-state-place-requires-2 Inv-history μ-history Inv-states μ-states
+state-place-requires-2 c κs = omega arith
+
+-- src/search.rt:63:16
+same-state-requires : tie.Need-same-state-requires Inv-history μ-history Inv-states μ-states
+same-state-requires c κs = same-asks (c .before .before .before .before .before .before .before .before .before .before .before .before .before .before .before .before .before .pre .0) (c .before .before .before .before .before .before .before .before .before .states-test .taken) (c .before .before .history-test .taken) (c .before .before .before .before .before .before .before .advance .ensures .1) (c .before .before .before .before .before .before .before .before .before .before .before .before .before .pack .ensures .0) refl (c .before .state-place2 .ensures) (c .before .before .before .before .state-place .ensures)
+
+-- src/search.rt:66:28
+sub-t22 : tie.Need-sub-t22 Inv-history μ-history Inv-states μ-states
+sub-t22 c = omega arith
+
+-- src/search.rt:70:13
+add-k : tie.Need-add-k Inv-history μ-history Inv-states μ-states
+add-k c = omega arith
+
+-- src/search.rt:61:9
+history-less : tie.Need-history-less Inv-history μ-history Inv-states μ-states
+history-less c = omega arith
+
+-- src/search.rt:61:9
+history-again : tie.Need-history-again Inv-history μ-history Inv-states μ-states
+history-again c = (omega arith, ((c .before .before .before .before .before .history .inv .1 .0), unlike-more (netlistOf (c .before .before .before .before .before .before .before .before .before .before .before .before .before .before .before .before .before .before .before .args .file .now)) (c .before .before .before .before .before .before .before .before .before .before .before .before .states .m) (c .before .before .before .before .before .history .k) (c .before .before .before .before .before .history .inv .1 .1) (sym (repeat-is (c .before .before .before .before .before .before .before .before .before .before .before .before .before .before .before .before .before .before .before .pre .0) (c .before .before .before .before .before .before .before .before .before .before .before .states-test .taken) (c .before .before .before .before .history-test .taken) (c .before .before .before .before .before .before .before .before .before .advance .ensures .1) (c .before .before .before .before .before .before .before .before .before .before .before .before .before .before .before .pack .ensures .0) refl (c .before .before .before .state-place2 .ensures) (c .before .before .before .before .before .before .state-place .ensures) (λ x. omega (arith, (c .before .before .before .before .before .before .before .slice-known3 .given) x)) (c .before .same-state .result) (c .before .same-state .ensures)) ∙ (c .if1 .left))))
+
+-- src/search.rt:72:9
+add-m : tie.Need-add-m Inv-history μ-history Inv-states μ-states
+add-m c = omega arith
+
+-- src/search.rt:57:5
+states-less : tie.Need-states-less Inv-history μ-history Inv-states μ-states
+states-less c = omega arith
+
+-- src/search.rt:57:5
+states-again : tie.Need-states-again Inv-history μ-history Inv-states μ-states
+states-again c = (sought-next (c .before .before .before .before .before .before .before .before .before .before .before .before .before .before .before .pre .0 .count) (c .before .before .before .before .before .before .before .before .before .before .before .before .before .before .before .pre .1) (c .before .before .before .before .before .before .before .before .before .before .before .pack .ensures .1 .0) (c .before .before .before .before .before .before .before .before .states .inv .0) (c .before .before .before .before .before .before .before .states-test .taken) (c .before .before .before .before .before .advance .ensures .0) (c .before .before .before .before .before .advance .ensures .1) (λ n h. (c .before .history .inv .1 .1) n (omega arith)), (c .before .history .inv .1 .0) ∙ (c .before .before .before .before .before .before .before .before .states .inv .1))
+
+-- src/search.rt:48:1
+same-length : tie.Need-same-length Inv-history μ-history Inv-states μ-states
+same-length c = (c .before .states .inv .0 .kept .long) ∙ (c .before .before .before .before .pack .ensures .1 .0 .long)
+
+-- src/search.rt:48:1
+returns : tie.Need-returns Inv-history μ-history Inv-states μ-states
+returns c = subst (LassoDone (netlistOf (c .before .before .before .before .before .before .before .before .args .file .now)) (c .before .before .before .before .before .before .before .before .args .work .now) (c .before .states .work)) (sym (c .before .states .inv .1)) (sought-never (c .before .before .before .before .before .before .before .before .pre .0 .count) (c .before .before .before .before .before .before .before .before .pre .1) (c .before .before .before .before .pack .ensures .1 .0) (c .before .states .inv .0) (omega arith))
+
+-- src/search.rt:48:1
+same-length-2 : tie.Need-same-length-2 Inv-history μ-history Inv-states μ-states
+same-length-2 c = (c .before .before .before .before .before .before .before .before .before .advance .ensures .0 .long) ∙ (c .before .before .before .before .before .before .before .before .before .before .before .before .states .inv .0 .kept .long) ∙ (c .before .before .before .before .before .before .before .before .before .before .before .before .before .before .before .pack .ensures .1 .0 .long)
+
+-- src/search.rt:48:1
+returns-2 : tie.Need-returns-2 Inv-history μ-history Inv-states μ-states
+returns-2 c = sought-found (c .before .before .before .before .before .before .before .before .before .before .before .before .before .before .before .before .before .before .before .pre .0 .count) (c .before .before .before .before .before .before .before .before .before .before .before .before .before .before .before .before .before .before .before .pre .1) (c .before .before .before .before .before .before .before .before .before .before .before .before .before .before .before .pack .ensures .1 .0) (c .before .before .before .before .before .before .before .before .before .before .before .before .states .inv .0) (c .before .before .before .before .before .before .before .before .before .before .before .states-test .taken) (c .before .before .before .before .before .before .before .before .before .advance .ensures .0) (c .before .before .before .before .before .before .before .before .before .advance .ensures .1) (c .before .before .before .before .before .history .k) (c .before .before .before .before .history-test .taken) (c .before .before .before .before .before .history .inv .1 .1) (sym (repeat-is (c .before .before .before .before .before .before .before .before .before .before .before .before .before .before .before .before .before .before .before .pre .0) (c .before .before .before .before .before .before .before .before .before .before .before .states-test .taken) (c .before .before .before .before .history-test .taken) (c .before .before .before .before .before .before .before .before .before .advance .ensures .1) (c .before .before .before .before .before .before .before .before .before .before .before .before .before .before .before .pack .ensures .0) refl (c .before .before .before .state-place2 .ensures) (c .before .before .before .before .before .before .state-place .ensures) (λ x. omega (arith, (c .before .before .before .before .before .before .before .slice-known3 .given) x)) (c .before .same-state .result) (c .before .same-state .ensures)) ∙ (c .if1 .taken))
+
+pub find-lasso-spec : {M : Type 1} → statement M
+find-lasso-spec =
+    tie.close
+    (tie.spec
+    Inv-history
+    μ-history
+    Inv-states
+    μ-states
+    pack-requires
+    add-words
+    states-holds
+    advance-requires
+    state-place-requires
+    history-holds
+    state-place-requires-2
+    same-state-requires
+    sub-t22
+    add-k
+    history-less
+    history-again
+    add-m
+    states-less
+    states-again
+    same-length
+    returns
+    same-length-2
+    returns-2)

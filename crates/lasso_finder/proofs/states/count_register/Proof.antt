@@ -1,0 +1,25 @@
+-- `count_register` meets its contract.
+-- Assumes nothing.
+use native.Mathlib.Omega.{arith}
+use mathlib.Core.Path.{refl}
+use borrow.Author.Tests.{eq-eqb, ne-eqb}
+use borrow.Author.Needs.{needs}
+use Rattle.lasso_finder.proofs.states.count_register.Statement.{statement}
+use Rattle.lasso_finder.proofs.states.count_register.Tie as tie
+use Rattle.lasso_finder.proofs.states.count_register.Reads as reads
+use Rattle.lasso_finder.proofs.states.count_register.Lts as lts
+
+-- src/states.rt:108:16
+add-result : tie.Need-add-result
+add-result c = search needs
+
+-- src/states.rt:108:9
+returns : tie.Need-returns
+returns c = rw (eq-eqb (c .before .args .kind) 2 (c .if1 .taken)) refl
+
+-- src/states.rt:103:1
+returns-2 : tie.Need-returns-2
+returns-2 c = rw (ne-eqb (c .before .args .kind) 2 (c .if1 .left)) (omega arith)
+
+pub count-register-spec : {M : Type 1} → statement M
+count-register-spec = tie.close (tie.spec add-result returns returns-2)

@@ -1,0 +1,140 @@
+-- Fold's work memory while the lasso is sought: the states, four registers to a byte, and each row's value, a byte each.
+-- Interface: Ready (what an accepted file gives), statePlace, valuePlace, Packed, Stored, Valued, Kept.
+-- Assumes nothing.
+use Prim.Native.Nat.{ℕ, zero, suc, _+_, _*_, _<_, _≤_, _/_, _%_, _^_}
+use mathlib.Core.Path.{_≡_}
+use mathlib.Core.Bool.{true, cond}
+use mathlib.Core.List.{List, [], _∷_}
+use lib.ListN.{length, getD, take}
+use Rattle.memory.specs.Lists.{joinBelow, countIf}
+use Rattle.memory.specs.Fields.{byteAt}
+use Rattle.ternary.specs.Ternary.{Ternary, X, codeOf, valueOf}
+use Rattle.netlist.specs.Limits.{mostOriginalRows, mostOriginalRegisters, foldWorkBytes, lastState}
+use Rattle.netlist.specs.Rows.{Row, decodeRow, rowAt, isRegister}
+use Rattle.netlist.specs.FileFormat.{rowOffset, readFields, netlistOf}
+use Rattle.netlist.specs.Simulation.{ternaryLogic, literalValue, rowValue, startBy, runValue}
+use Rattle.netlist.proofs.WellFormed.{OperandsBelow, AcceptedRows}
+use Rattle.lasso.specs.Generators.{stateValue}
+use Rattle.blockfile.specs.RowCode.{fieldsIn}
+use Rattle.blockfile.specs.declared.Fields.{Fields}
+
+-- The n rows of the file f are right by questions 6 to 13, and each stands inside the file.
+pub record Ready (f : List ℕ) (n : ℕ) : Type 0 where
+  pub count : n ≡ length (netlistOf f)
+  pub accepted : AcceptedRows (netlistOf f)
+  pub registers : countIf isRegister (netlistOf f) ≤ mostOriginalRegisters
+  pub inside : (i : ℕ) → i < n → rowOffset i + 8 ≤ length f
+  pub decoded : (i : ℕ) → i < n → rowAt (netlistOf f) i ≡ decodeRow (readFields f i)
+
+-- ---- places
+
+-- State t has 64 bytes from here on; between state 255 and state 256 stand the rows' values.
+abbrev pub statePlace : ℕ → ℕ
+statePlace t = 16384 + 64 * t + t / lastState * mostOriginalRows
+
+abbrev pub valuePlace : ℕ → ℕ
+valuePlace i = 32768 + i
+
+-- w′ is w but for the bytes from lo to hi - 1.
+pub record Kept (lo hi : ℕ) (w w′ : List ℕ) : Type 0 where
+  pub long : length w′ ≡ length w
+  pub under : (x : ℕ) → x < lo → byteAt w′ x ≡ byteAt w x
+  pub over : (x : ℕ) → hi ≤ x → byteAt w′ x ≡ byteAt w x
+
+-- ---- a state
+
+-- The two bits number e of a byte.
+abbrev pub pairOf : ℕ → ℕ → ℕ
+pairOf b e = b / 2 ^ (e * 2) % 4
+
+-- Register j in the state from base on.
+abbrev pub codeAt : List ℕ → ℕ → ℕ → ℕ
+codeAt w base j = pairOf (byteAt w (base + j / 4)) (j % 4)
+
+-- The codes cs stand in the 64 bytes from base on, four to a byte; behind them all bits are 0.
+abbrev pub stateBytes : ℕ
+stateBytes = mostOriginalRegisters / 4
+
+abbrev pub Packed : List ℕ → ℕ → List ℕ → Type 0
+Packed w base cs = (k e : ℕ) → k < stateBytes → e < 4 → pairOf (byteAt w (base + k)) e ≡ getD cs (4 * k + e) 0
+
+-- How many of the first i rows are registers: the number of a register in row i.
+abbrev pub registersBefore : List Row → ℕ → ℕ
+registersBefore rows i = countIf isRegister (take i rows)
+
+-- What the registers of the first i rows hold in state t.
+unfoldable pub stateCodes : List Row → ℕ → ℕ → List ℕ
+stateCodes rows t i = joinBelow i (λ x. cond (isRegister (rowAt rows x)) (codeOf (stateValue rows x t) ∷ []) [])
+
+-- State t stands in its place.
+abbrev pub Stored : List Row → List ℕ → ℕ → Type 0
+Stored rows w t = Packed w (statePlace t) (stateCodes rows t (length rows))
+
+-- ---- the rows' values
+
+abbrev pub valueIn : List ℕ → ℕ → Ternary
+valueIn w x = valueOf (byteAt w (valuePlace x))
+
+-- The value of row x in step t of the three-valued run.
+abbrev pub stepValue : List Row → ℕ → ℕ → Ternary
+stepValue rows t x = runValue ternaryLogic rows (λ l. X) (λ s l p. X) t x
+
+-- The values of the first i rows in step t.
+abbrev pub Valued : List Row → List ℕ → ℕ → ℕ → Type 0
+Valued rows w t i = (x : ℕ) → x < i → byteAt w (valuePlace x) ≡ codeOf (stepValue rows t x)
+
+-- The memory is long enough, and each row's byte is a code.
+pub record Coded (w : List ℕ) : Type 0 where
+  pub room : foldWorkBytes ≤ length w
+  pub code : (x : ℕ) → x < mostOriginalRows → byteAt w (valuePlace x) < 3
+
+abbrev pub literalIn : List ℕ → ℕ → Ternary
+literalIn w l = literalValue ternaryLogic (valueIn w) l
+
+-- ---- a step
+
+-- What working out a row of these fields asks; its operands name rows below some bound, and register j is one.
+pub record RowReady (w : List ℕ) (r : Fields) (base j : ℕ) : Type 0 where
+  pub coded : Coded w
+  pub bound : ℕ
+  pub few : bound ≤ mostOriginalRows
+  pub operands : OperandsBelow bound (decodeRow (fieldsIn r))
+  pub base-small : base ≤ statePlace lastState
+  pub held : isRegister (decodeRow (fieldsIn r)) ≡ true → (j < mostOriginalRegisters) × (codeAt w base j < 3)
+
+abbrev pub rowIn : List ℕ → Fields → ℕ → ℕ → Ternary
+rowIn w r base j = rowValue ternaryLogic (valueOf (codeAt w base j)) (λ l p. X) (valueIn w) (decodeRow (fieldsIn r))
+
+-- What a register's next code asks, and what it is, in state t.
+pub record NextReady (w : List ℕ) (r : Fields) : Type 0 where
+  pub coded : Coded w
+  pub reset-in : r .reset ≤ 2
+  pub next-in : r .a / 2 < mostOriginalRows
+
+abbrev pub nextIn : List ℕ → Fields → ℕ → Ternary
+nextIn w r zero = startBy ternaryLogic (r .reset) X
+nextIn w r (suc t) = literalIn w (r .a)
+
+-- Row i is one of the n rows of the file f, and j registers stand before it.
+pub record AtRow (f : List ℕ) (n i j : ℕ) : Type 0 where
+  pub ready : Ready f n
+  pub within : i < n
+  pub number : j ≡ registersBefore (netlistOf f) i
+
+-- State t and the values of the first i rows in step t stand in the memory.
+pub record Evaluated (rows : List Row) (w : List ℕ) (t i : ℕ) : Type 0 where
+  pub coded : Coded w
+  pub state : Stored rows w t
+  pub values : Valued rows w t i
+
+-- The registers of the first i rows in state t stand in its place, and, if t is not 0, the values of the step before it.
+pub record StatePart (rows : List Row) (w : List ℕ) (t i : ℕ) : Type 0 where
+  pub coded : Coded w
+  pub part : Packed w (statePlace t) (stateCodes rows t i)
+  pub values : (u : ℕ) → t ≡ suc u → Valued rows w u (length rows)
+
+-- States 0 to m - 1 stand in their places, and the places of the others are clear.
+pub record Searched (rows : List Row) (w : List ℕ) (m : ℕ) : Type 0 where
+  pub coded : Coded w
+  pub stored : (t : ℕ) → t < m → Stored rows w t
+  pub clear : (t : ℕ) → m ≤ t → t ≤ lastState → Packed w (statePlace t) []
