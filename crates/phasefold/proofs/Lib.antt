@@ -1,3 +1,4 @@
 -- Laws of the operations' answers.
 pub mod AnswerLaws
 pub mod ShowLaws
+pub mod ForeignLaws

@@ -1,8 +1,8 @@
 -- The outcomes of Show, by Check's answer and the block's number.
 -- Assumes nothing.
-use Prim.Native.Nat.{ℕ, zero, suc, _+_, _-_, _*_, _<_, _≤_, _/_}
+use Prim.Native.Nat.{ℕ, _+_, _*_, _<_, _≤_}
 use mathlib.Core.Path.{_≡_, refl, sym, ap, _∙_}
-use mathlib.Core.Bool.{Bool, cond}
+use mathlib.Core.Bool.{cond}
 use mathlib.Core.List.{List, [], _∷_}
 use native.Mathlib.Omega.{arith}
 use lib.Dec.{eqb, ltb}
@@ -16,8 +16,9 @@ use Rattle.accept.specs.Refusals.{numberOf, placeOf, refusalIn, acceptRefusal}
 use Rattle.accept.specs.declared.FileRefusal.{FileRefusal}
 use Rattle.accept.specs.declared.Acceptance.{Acceptance}
 use Rattle.accept.specs.declared.Acceptance.the-variants.{Accepted, Refused}
+use Rattle.accept.proofs.RefusalLaws.{number-positive, list-stop}
 use Rattle.phasefold.specs.Outcomes.{Shown}
-use Rattle.phasefold.proofs.AnswerLaws.{list-first, refused-number, accepted-none, refused-is}
+use Rattle.phasefold.proofs.AnswerLaws.{accepted-none, refused-is}
 
 -- The row part as one part of the file.
 part-is : (file : List ℕ) (B n : ℕ) → n ≡ 504 → 512 * B + 512 ≤ length file → take n (drop (512 * B + 4) file) ≡ rowPart file B
@@ -50,5 +51,5 @@ module _ (file : List ℕ) (B : ℕ) where
     unfolding showRefusal
     file-refused r n p e en ep =
         let q : showRefusal file B ≡ refusalIn r =
-        list-first (fileRefusal file) (question 21 (ltb B (blockCount file)) ∷ []) (λ z. refused-number r (ap (λ (x : Refusal). x .number) (refused-is file a checked r e) ∙ z)) ∙ sym (refused-is file a checked r e) in
-        rw (en, ep) (shown-by (refusalIn r) [] q (rw (ne-eqb (numberOf r) 0 (refused-number r))))
+        list-stop (fileRefusal file) (question 21 (ltb B (blockCount file)) ∷ []) (omega (arith, number-positive r, ap (λ (x : Refusal). x .number) (refused-is file a checked r e))) ∙ sym (refused-is file a checked r e) in
+        rw (en, ep) (shown-by (refusalIn r) [] q (rw (ne-eqb (numberOf r) 0 (λ z. omega (arith, number-positive r, z)))))

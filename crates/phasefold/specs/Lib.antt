@@ -1,3 +1,4 @@
 -- What the public operations promise.
 pub mod Answers
 pub mod Outcomes
+pub mod ForeignAnswers

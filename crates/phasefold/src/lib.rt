@@ -1,10 +1,14 @@
-// The phase folder's public library: Check, Count and Show.
+// The phase folder's public library: Check, Count, Show and Run.
 ghost use mathlib.Core.Path.{_≡_};
 ghost use Rattle.accept.specs.Refusals.{numberOf, placeOf};
 ghost use Rattle.phasefold.specs.Outcomes.{Checked, Counted, Shown};
+ghost use Rattle.run_core.specs.Ran.{Ran};
 use accept::Acceptance;
 use accept::FileRefusal;
 use blockfile::count::Counts;
+use run_core::RunAnswer;
+
+pub mod foreign;
 
 pub fn check(file: &[u8]) -> Acceptance
     ensures { λ r. ⌜ Checked (now (file .entry)) r ⌝ }
@@ -91,4 +95,18 @@ pub fn show<'a>(file: &'a [u8], block: u32, number: &mut u32, place: &mut u32) -
             &file[0..0]
         }
     }
+}
+
+// T steps on the caller's values.
+pub fn run(
+    file: &[u8],
+    steps: u32,
+    choices: &[u8],
+    inputs: &[u8],
+    result: &mut [u8],
+    work: &mut [u8],
+) -> RunAnswer
+    ensures { λ r. ⌜ Ran (now (file .entry)) steps (now (choices .entry)) (now (inputs .entry)) (now (result .entry)) (now (result .exit)) (now (work .entry)) (now (work .exit)) r ⌝ }
+{
+    run_core::run_core(file, steps, choices, inputs, result, work)
 }

@@ -6,11 +6,6 @@ use Rattle.phasefold.proofs.ShowLaws.{block-shown, block-missing, file-
 use borrow.Author.Needs.{needs}
 use Rattle.phasefold.proofs.show.Statement.{statement}
 use Rattle.phasefold.proofs.show.Tie as tie
-use Rattle.phasefold.proofs.show.Reads as reads
-use Rattle.phasefold.proofs.show.Lts as lts
-use Rattle.accept.proofs.accept.Reads as accept-reads
-use Rattle.phasefold.proofs.number_in.Reads as number-in-reads
-use Rattle.phasefold.proofs.place_in.Reads as place-in-reads
 
 -- src/lib.rt:72:11
 accept-requires : tie.Need-accept-requires

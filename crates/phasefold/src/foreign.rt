@@ -1,0 +1,140 @@
+// The operations for callers in C: a slice is a pointer and a length, an answer a struct of numbers with the refusal's number and place first, both 0 on success.
+ghost use mathlib.Core.Path.{_≡_};
+ghost use Rattle.netlist.specs.Limits.{mostRows};
+ghost use Rattle.questions.specs.Questions.{fileRefusal};
+ghost use Rattle.blockfile.specs.CountCode.{countsIn, EachAtMost};
+ghost use Rattle.run_core.specs.RunAnswers.{runRefusalIn};
+ghost use Rattle.accept.specs.Refusals.{refusalIn};
+ghost use Rattle.phasefold.specs.ForeignAnswers.{refusalNumbers, acceptedCounts, countNumbers, RanFlat};
+use super::CountAnswer;
+use accept::Acceptance;
+use accept::FileRefusal;
+use blockfile::count::Counts;
+use run_core::RunAnswer;
+use run_core::RunRefusal;
+
+#[repr(C)]
+pub struct PfRefusal {
+    pub number: u32,
+    pub place: u32,
+}
+
+#[repr(C)]
+pub struct PfCounts {
+    pub number: u32,
+    pub place: u32,
+    pub nodes: u32,
+    pub inputs: u32,
+    pub registers: u32,
+    pub unknown: u32,
+    pub outputs: u32,
+}
+
+fn file_numbers(refusal: FileRefusal) -> PfRefusal
+    ensures { λ r. ⌜ r ≡ refusalNumbers (refusalIn refusal) ⌝ }
+{
+    let number = super::number_in(refusal);
+    let place = super::place_in(refusal);
+    PfRefusal {
+        number: number,
+        place: place,
+    }
+}
+
+fn run_numbers(refusal: RunRefusal) -> PfRefusal
+    ensures { λ r. ⌜ r ≡ refusalNumbers (runRefusalIn refusal) ⌝ }
+{
+    match refusal {
+        RunRefusal::File(file) => file_numbers(file),
+        RunRefusal::Steps => PfRefusal {
+            number: 17,
+            place: 0,
+        },
+        RunRefusal::Lists => PfRefusal {
+            number: 18,
+            place: 0,
+        },
+        RunRefusal::Value => PfRefusal {
+            number: 19,
+            place: 0,
+        },
+        RunRefusal::Memory => PfRefusal {
+            number: 20,
+            place: 0,
+        },
+    }
+}
+
+#[no_mangle]
+pub extern "C" fn pf_check(file: &[u8]) -> PfRefusal
+    ensures { λ r. ⌜ r ≡ refusalNumbers (fileRefusal (now (file .entry))) ⌝ }
+{
+    match super::check(file) {
+        Acceptance::Accepted => PfRefusal {
+            number: 0,
+            place: 0,
+        },
+        Acceptance::Refused(refusal) => file_numbers(refusal),
+    }
+}
+
+fn counts_numbers(counts: Counts) -> PfCounts
+    requires { ⌜ EachAtMost (countsIn counts) mostRows ⌝ }
+    ensures { λ r. ⌜ r ≡ acceptedCounts (countsIn counts) ⌝ }
+{
+    let nodes = counts.nodes as u32;
+    let inputs = counts.inputs as u32;
+    let registers = counts.registers as u32;
+    let unknown = counts.unknown as u32;
+    let outputs = counts.outputs as u32;
+    PfCounts {
+        number: 0,
+        place: 0,
+        nodes: nodes,
+        inputs: inputs,
+        registers: registers,
+        unknown: unknown,
+        outputs: outputs,
+    }
+}
+
+#[no_mangle]
+pub extern "C" fn pf_count(file: &[u8]) -> PfCounts
+    ensures { λ r. ⌜ r ≡ countNumbers (now (file .entry)) ⌝ }
+{
+    match super::count(file) {
+        CountAnswer::Counted(counts) => counts_numbers(counts),
+        CountAnswer::Refused(refusal) => {
+            let told = file_numbers(refusal);
+            PfCounts {
+                number: told.number,
+                place: told.place,
+                nodes: 0,
+                inputs: 0,
+                registers: 0,
+                unknown: 0,
+                outputs: 0,
+            }
+        }
+    }
+}
+
+#[no_mangle]
+pub extern "C" fn pf_run(
+    file: &[u8],
+    steps: u32,
+    choices: &[u8],
+    inputs: &[u8],
+    result: &mut [u8],
+    work: &mut [u8],
+) -> PfRefusal
+    ensures { λ r. ⌜ RanFlat (now (file .entry)) steps (now (choices .entry)) (now (inputs .entry)) (now (result .entry)) (now (result .exit)) (now (work .entry)) (now (work .exit)) r ⌝ }
+{
+    match super::run(file, steps, choices, inputs, result, work) {
+        RunAnswer::Done => PfRefusal {
+            number: 0,
+            place: 0,
+        },
+        RunAnswer::Refused(refusal) => run_numbers(refusal),
+    }
+}

@@ -1,0 +1,170 @@
+// Run: questions 1 to 10 and 17 to 20, then the steps, in the lent memory.
+ghost use mathlib.Core.Path.{_≡_};
+ghost use mathlib.Core.List.{List};
+ghost use Prim.Native.Nat.{_≤_};
+ghost use Rattle.netlist.specs.Limits.{mostRows, mostSteps};
+ghost use Rattle.netlist.specs.Rows.{Row};
+ghost use Rattle.questions.specs.Questions.{countsOf, valueListsRight, allBinary, runMemoryRight};
+ghost use Rattle.blockfile.specs.CountCode.{countsIn, EachAtMost};
+ghost use Rattle.run_core.specs.RunPlans.{StepsPlanned, RunPlanned};
+ghost use Rattle.run_core.specs.Ran.{Ran};
+use accept::Acceptance;
+use accept::FileRefusal;
+use blockfile::count::Counts;
+use blockfile::count::both;
+
+// What a run is refused for; of a file, with its place.
+pub enum RunRefusal {
+    File(FileRefusal),
+    Steps,
+    Lists,
+    Value,
+    Memory,
+}
+
+pub enum RunAnswer {
+    Done,
+    Refused(RunRefusal),
+}
+
+// The rows, the nodes and the inputs of a netlist that is to be run, or why it is not.
+enum RunPlan {
+    Go {
+        rows: usize,
+        nodes: usize,
+        inputs: usize,
+    },
+    Stop(RunRefusal),
+}
+
+const MOST_STEPS: usize = 4096;
+
+const WORK_BYTES: usize = 16384;
+
+// Where the registers' values begin in the work memory.
+const HALF: usize = WORK_BYTES / 2;
+
+// 19, of one list.
+fn all_binary(values: &[u8]) -> bool
+    ensures { λ r. ⌜ r ≡ allBinary (now (values .entry)) ⌝ }
+{
+    let mut binary = true;
+    let mut i = 0;
+    'values: while i < values.len() {
+        let value = values[i];
+        binary = both(binary, value <= 1);
+        i += 1;
+    }
+    binary
+}
+
+// 18.
+fn lists_right(counts: Counts, steps: usize, choices: &[u8], inputs: &[u8]) -> bool
+    requires { ⌜ EachAtMost (countsIn counts) mostRows × (steps ≤ mostSteps) ⌝ }
+    ensures { λ r. ⌜ ((rows : List Row) → countsIn counts ≡ countsOf rows → r ≡ valueListsRight rows steps (now (choices .entry)) (now (inputs .entry))) ⌝ }
+{
+    let values = steps * counts.inputs;
+    both(choices.len() == counts.unknown, inputs.len() == values)
+}
+
+// 20.
+fn memory_right(counts: Counts, steps: usize, result: usize, work: usize) -> bool
+    requires { ⌜ EachAtMost (countsIn counts) mostRows × (steps ≤ mostSteps) ⌝ }
+    ensures { λ r. ⌜ ((rows : List Row) → countsIn counts ≡ countsOf rows → r ≡ runMemoryRight rows steps result work) ⌝ }
+{
+    let bytes = steps * counts.outputs;
+    both(bytes <= result, WORK_BYTES <= work)
+}
+
+// 17 to 20, of an accepted file of this many rows and these counts.
+fn plan_steps(
+    rows: usize,
+    counts: Counts,
+    steps: usize,
+    choices: &[u8],
+    inputs: &[u8],
+    result: usize,
+    work: usize,
+) -> RunPlan
+    requires { ⌜ EachAtMost (countsIn counts) mostRows ⌝ }
+    ensures { λ r. ⌜ StepsPlanned rows (countsIn counts) steps (now (choices .entry)) (now (inputs .entry)) result work r ⌝ }
+{
+    if MOST_STEPS < steps {
+        return RunPlan::Stop(RunRefusal::Steps);
+    }
+    if !lists_right(counts, steps, choices, inputs) {
+        return RunPlan::Stop(RunRefusal::Lists);
+    }
+    if !both(all_binary(choices), all_binary(inputs)) {
+        return RunPlan::Stop(RunRefusal::Value);
+    }
+    if !memory_right(counts, steps, result, work) {
+        return RunPlan::Stop(RunRefusal::Memory);
+    }
+    RunPlan::Go {
+        rows: rows,
+        nodes: counts.nodes,
+        inputs: counts.inputs,
+    }
+}
+
+// All of Run's questions.
+fn plan_run(
+    file: &[u8],
+    steps: usize,
+    choices: &[u8],
+    inputs: &[u8],
+    result: usize,
+    work: usize,
+) -> RunPlan
+    ensures { λ r. ⌜ RunPlanned (now (file .entry)) steps (now (choices .entry)) (now (inputs .entry)) result work r ⌝ }
+{
+    match accept::accept(file) {
+        Acceptance::Accepted => {
+            let rows = accept::row_count(file);
+            let counts = blockfile::count::count_rows(file, rows);
+            plan_steps(rows, counts, steps, choices, inputs, result, work)
+        }
+        Acceptance::Refused(refusal) => RunPlan::Stop(RunRefusal::File(refusal)),
+    }
+}
+
+// A run of this many steps: the outputs' bytes in `result`. Work is cleared on every return.
+pub fn run_core(
+    file: &[u8],
+    steps: u32,
+    choices: &[u8],
+    inputs: &[u8],
+    result: &mut [u8],
+    work: &mut [u8],
+) -> RunAnswer
+    ensures { λ r. ⌜ Ran (now (file .entry)) steps (now (choices .entry)) (now (inputs .entry)) (now (result .entry)) (now (result .exit)) (now (work .entry)) (now (work .exit)) r ⌝ }
+{
+    let count = steps as usize;
+    let room = work.len();
+    let plan = plan_run(file, count, choices, inputs, result.len(), room);
+    memory::clear(&mut *work);
+    match plan {
+        RunPlan::Stop(refusal) => RunAnswer::Refused(refusal),
+        RunPlan::Go {
+            rows,
+            nodes,
+            inputs: inputs_a_step,
+        } => {
+            simulate::run_steps(
+                file,
+                rows,
+                nodes,
+                inputs_a_step,
+                count,
+                choices,
+                inputs,
+                result,
+                &mut *work,
+                HALF,
+            );
+            memory::clear(work);
+            RunAnswer::Done
+        }
+    }
+}
