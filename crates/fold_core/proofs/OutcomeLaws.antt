@@ -1,0 +1,168 @@
+-- The whole outcome of Fold: the refusal, the numbers and the result of the model, and demand 3 between the file given and the file left.
+-- Assumes nothing.
+use Prim.Native.Nat.{ℕ, _*_, _<_}
+use mathlib.Core.Path.{_≡_, refl, sym, ap, _∙_, subst}
+use mathlib.Core.Bool.{true, false, cond}
+use mathlib.Core.List.{List, [], _∷_, _++_}
+use mathlib.Core.Option.{Option, none, some}
+use native.Mathlib.Omega.{arith}
+use native.Mathlib.Decide.{decLt}
+use lib.Dec.{eqb}
+use lib.ListN.{length, replicate}
+use lib.Seq.{take-at}
+use borrow.Author.Tests.{ne-eqb}
+use Rattle.memory.specs.Fields.{IsBytes}
+use Rattle.netlist.specs.Rows.{Row}
+use Rattle.netlist.specs.FileFormat.{netlistOf, fileOf, blocksFor}
+use Rattle.netlist.proofs.FileLaws.{file-length}
+use Rattle.lasso.specs.LassoSearch.{Lasso, findLasso}
+use Rattle.abstraction.specs.Fold.{FoldAnswer, foldFromLasso, foldNetlist}
+use Rattle.questions.specs.Questions.{Refusal, noRefusal, firstRefusal, question, hasLasso, foldRefusal}
+use Rattle.questions.proofs.QuestionLaws.{list-none, list-next}
+use Rattle.guarantees.specs.FoldGuarantee.{FoldGuarantee}
+use Rattle.guarantees.proofs.FoldPromise.{fold-guarantee}
+use Rattle.lasso_finder.proofs.ReadyLaws.{work-ready-of}
+use Rattle.accept.proofs.RefusalLaws.{list-stop}
+use Rattle.fold_core.specs.FoldAnswers.{foldRefusalIn, foldingRefusal, numbersIn, foldAnswered, numbersOf, entriesOf, resultOf}
+use Rattle.fold_core.specs.FoldOutcome.{fileLeft, LeftFolded, CoreFolded}
+use Rattle.fold_core.specs.FoldParts.{earlyRefusal, askedRefusal, Questioned, FoldReady, foldingOf, FoldMade}
+use Rattle.fold_core.specs.declared.early.Asked.{Asked}
+use Rattle.fold_core.specs.declared.early.Asked.the-variants.{Passed, Stopped}
+use Rattle.fold_core.specs.declared.FoldRefusal.{FoldRefusal}
+use Rattle.fold_core.specs.declared.Folding.{Folding}
+use Rattle.fold_core.specs.declared.Folding.the-variants.{Refused}
+use Rattle.fold_core.proofs.EarlyLaws.{fold-number-positive}
+use Rattle.fold_core.proofs.PassedLaws.{earlyAsked, early-memory}
+
+same-number : {q r : Refusal} → q ≡ r → q .number ≡ r .number
+same-number e = ap (λ (x : Refusal). x .number) e
+
+-- ---- more questions behind a list of them
+
+first-before : (qs ps : List Refusal) → 0 < firstRefusal qs .number → firstRefusal (qs ++ ps) ≡ firstRefusal qs
+first-before [] ps h = absurd (omega arith)
+first-before (q ∷ qs) ps h = elim (decLt 0 (q .number)) [
+  | yes l ↦ list-stop q (qs ++ ps) l ∙ sym (list-stop q qs l)
+  | no l ↦
+      (let e : q .number ≡ 0 = omega arith in
+      let n = list-next q qs e in
+      list-next q (qs ++ ps) e ∙ first-before qs ps (omega (arith, h, same-number n)) ∙ sym n)
+]
+
+first-behind : (qs ps : List Refusal) → firstRefusal qs .number ≡ 0 → firstRefusal (qs ++ ps) ≡ firstRefusal ps
+first-behind [] ps h = refl
+first-behind (q ∷ qs) ps h = let n = list-none q qs h in list-next q (qs ++ ps) (n .0) ∙ first-behind qs ps (n .1)
+
+-- ---- 16, behind questions 1 to 15
+
+-- Question 16 alone.
+abbrev lassoRefusal : List Row → Refusal
+lassoRefusal rows = firstRefusal (question 16 (hasLasso rows) ∷ [])
+
+module _ (file : List ℕ) (wish result work clocks : ℕ) where
+  early-refuses : 0 < earlyRefusal file wish result work clocks .number → foldRefusal file wish result work clocks ≡ earlyRefusal file wish result work clocks
+  unfolding earlyRefusal foldRefusal
+  early-refuses h = first-before (earlyAsked file wish result work clocks) (question 16 (hasLasso (netlistOf file)) ∷ []) h
+
+  early-passes : earlyRefusal file wish result work clocks ≡ noRefusal → foldRefusal file wish result work clocks ≡ lassoRefusal (netlistOf file)
+  unfolding earlyRefusal foldRefusal
+  early-passes h = first-behind (earlyAsked file wish result work clocks) (question 16 (hasLasso (netlistOf file)) ∷ []) (same-number h)
+
+module _ (rows : List Row) (wish : ℕ) where
+  -- Where there is no lasso there is no fold, and it is refused for that.
+  lasso-refusal : foldingRefusal (foldingOf (foldNetlist rows wish)) ≡ lassoRefusal rows
+  unfolding foldNetlist
+  lasso-refusal = go (findLasso rows)
+    where
+      go : (o : Option Lasso) → foldingRefusal (foldingOf (elim o [ none ↦ none | some z ↦ some (foldFromLasso rows wish z) ])) ≡ firstRefusal (question 16 (elim o [ none ↦ false | some z ↦ true ]) ∷ [])
+      go none = refl
+      go (some z) = refl
+
+  lasso-answered : cond (eqb (lassoRefusal rows .number) 0) (foldNetlist rows wish) none ≡ foldNetlist rows wish
+  unfolding foldNetlist
+  lasso-answered = go (findLasso rows)
+    where
+      go : (o : Option Lasso) → cond {A = Option FoldAnswer} (eqb (firstRefusal (question 16 (elim o [ none ↦ false | some z ↦ true ]) ∷ []) .number) 0) (elim o [ none ↦ none | some z ↦ some (foldFromLasso rows wish z) ]) none ≡ elim o [ none ↦ none | some z ↦ some (foldFromLasso rows wish z) ]
+      go none = refl
+      go (some z) = refl
+
+-- ---- the outcome
+
+numbers-same : (o : Option FoldAnswer) → numbersIn (foldingOf o) ≡ numbersOf o
+numbers-same none = refl
+numbers-same (some a) = refl
+
+-- The file of the rows at the start of a result.
+left-file : (file : List ℕ) (wish : ℕ) (G : FoldGuarantee file wish) (result : List ℕ) → LeftFolded file (G .answer .phases) (fileLeft (resultOf (some (G .answer)) result) (G .answer .after))
+left-file file wish G result =
+    let new = G .answer .rows in
+    let n : length (fileOf new) ≡ 512 * blocksFor (G .answer .after) = file-length new ∙ ap (λ (k : ℕ). 512 * blocksFor k) (sym (G .words .after)) in
+    subst (LeftFolded file (G .answer .phases)) (sym (take-at (fileOf new) _ (512 * blocksFor (G .answer .after)) n))
+    (record { accepted = G .accepted; stands = rw (G .read-back) (G .stands); behaves = rw (G .read-back) (G .behaves) })
+
+-- The work memory is cleared, and keeps its length.
+module _ {file : List ℕ} {wish clocks : ℕ} (result work cleared : List ℕ) (long : length cleared ≡ length work) {asked : Asked} (Q : Questioned file wish (length result) (length cleared) clocks asked) where
+  early-is : askedRefusal asked ≡ earlyRefusal file wish (length result) (length work) clocks
+  early-is = Q .refusal ∙ ap (λ (k : ℕ). earlyRefusal file wish (length result) k clocks) long
+
+  pub core-stopped : {r : FoldRefusal} → asked ≡ Stopped r → CoreFolded file wish clocks result result work cleared (Refused r)
+  core-stopped {r} e =
+      let q : foldRefusalIn r ≡ earlyRefusal file wish (length result) (length work) clocks = sym (ap askedRefusal e) ∙ early-is in
+      let positive = fold-number-positive r in
+      let f : foldRefusalIn r ≡ foldRefusal file wish (length result) (length work) clocks = q ∙ sym (early-refuses file wish (length result) (length work) clocks (omega (arith, same-number q))) in
+      let none-is : foldAnswered file wish (length result) (length work) clocks ≡ none = rw (ne-eqb (foldRefusal file wish (length result) (length work) clocks .number) 0 (λ z. omega (arith, same-number f))) refl in
+      let refused : foldRefusalIn r ≡ noRefusal → ⊥ = λ z. omega (arith, same-number z) in
+      record {
+        done = record {
+          refusal = f;
+          numbers = sym (ap numbersOf none-is);
+          written = sym (ap (λ (o : Option FoldAnswer). resultOf o result) none-is);
+          guarantee = λ z. absurd (refused z);
+          left = λ z. absurd (refused z);
+        };
+        entries = sym (ap entriesOf none-is);
+        few = (omega arith, omega arith);
+      }
+
+  pub fold-ready : {n : ℕ} → asked ≡ Passed n → cleared ≡ replicate (length work) 0 → FoldReady file n wish result cleared
+  fold-ready {n} e z =
+      let p : earlyRefusal file wish (length result) (length cleared) clocks ≡ noRefusal = sym (Q .refusal) ∙ ap askedRefusal e in
+      record { clocks = clocks; passed = p; rows = Q .rows n e; work-ready = work-ready-of cleared (length work) z (early-memory file wish (length result) (length cleared) clocks p .work-long) }
+
+  module _ (bytes : IsBytes file) {n : ℕ} (passed : asked ≡ Passed n) {result′ work′ : List ℕ} {answer : Folding} (M : FoldMade file wish result result′ work′ answer) where
+    early-none : earlyRefusal file wish (length result) (length work) clocks ≡ noRefusal
+    early-none = sym early-is ∙ ap askedRefusal passed
+
+    refusal-is : foldingRefusal answer ≡ foldRefusal file wish (length result) (length work) clocks
+    refusal-is = ap foldingRefusal (M .answer-is) ∙ lasso-refusal (netlistOf file) wish ∙ sym (early-passes file wish (length result) (length work) clocks early-none)
+
+    answered-is : foldAnswered file wish (length result) (length work) clocks ≡ foldNetlist (netlistOf file) wish
+    answered-is = ap (λ (r : Refusal). cond (eqb (r .number) 0) (foldNetlist (netlistOf file) wish) none) (early-passes file wish (length result) (length work) clocks early-none) ∙ lasso-answered (netlistOf file) wish
+
+    numbers-are : numbersIn answer ≡ numbersOf (foldNetlist (netlistOf file) wish)
+    numbers-are = ap numbersIn (M .answer-is) ∙ numbers-same (foldNetlist (netlistOf file) wish)
+
+    guaranteed : foldingRefusal answer ≡ noRefusal → FoldGuarantee file wish
+    guaranteed z = fold-guarantee file bytes wish (length result) (length work) clocks (sym refusal-is ∙ z)
+
+    left-is : foldingRefusal answer ≡ noRefusal → LeftFolded file (numbersIn answer .phases) (fileLeft result′ (numbersIn answer .after))
+    left-is z =
+        let G = guaranteed z in
+        let a : numbersIn answer ≡ numbersOf (some (G .answer)) = numbers-are ∙ ap numbersOf (G .folds) in
+        let w : result′ ≡ resultOf (some (G .answer)) result = M .written ∙ ap (λ (o : Option FoldAnswer). resultOf o result) (G .folds) in
+        rw (w, a) (left-file file wish G result)
+
+    pub core-passed : CoreFolded file wish clocks result result′ work work′ answer
+    core-passed =
+        let m = early-memory file wish (length result) (length work) clocks early-none in
+        record {
+          done = record {
+            refusal = refusal-is;
+            numbers = numbers-are ∙ sym (ap numbersOf answered-is);
+            written = M .written ∙ sym (ap (λ (o : Option FoldAnswer). resultOf o result) answered-is);
+            guarantee = guaranteed;
+            left = left-is;
+          };
+          entries = M .entries ∙ sym (ap entriesOf answered-is);
+          few = (omega (arith, M .few, m .clocks-long), M .few);
+        }

@@ -1,0 +1,55 @@
+-- `first_phase` meets its contract. The loop's invariant: the rows before `row` have phase 0. The measure is the number of rows left.
+-- Assumes nothing.
+use Prim.Native.Nat.{_-_, _≤_}
+use native.Mathlib.Omega.{arith}
+use Rattle.netlist.specs.FileFormat.{netlistOf}
+use Rattle.fold_core.proofs.EarlyLaws.{NoPhase, phase-missing, phase-here, phase-after}
+use Rattle.fold_core.proofs.early.first_phase.Statement.{statement}
+use Rattle.fold_core.proofs.early.first_phase.Tie as tie
+
+abbrev Inv-rows : tie.InvT-rows
+Inv-rows file rows row₀ row = (row ≤ rows) × NoPhase (netlistOf file) row
+
+abbrev μ-rows : tie.MeasureT-rows
+μ-rows file rows row₀ row = rows - row
+
+rows-holds : tie.Need-rows-holds Inv-rows μ-rows
+rows-holds c = (omega arith, λ j l. absurd (omega arith))
+
+row-phase-requires : tie.Need-row-phase-requires Inv-rows μ-rows
+row-phase-requires c κs = let R = c .before .before .before .pre in (omega (arith, R .few), R .inside (c .before .rows .row) (c .rows-test .taken))
+
+returns : tie.Need-returns Inv-rows μ-rows
+returns c =
+    let a = c .before .before .before .before .before in
+    let l = c .before .before .before .rows in
+    phase-here (a .args .file .now) (a .args .rows) (a .pre) (l .row) (c .before .before .rows-test .taken) (c .before .row-phase .result) (c .before .row-phase .ensures) (l .inv .1) (λ e. omega (arith, e))
+
+add-row : tie.Need-add-row Inv-rows μ-rows
+add-row c = omega arith
+
+rows-less : tie.Need-rows-less Inv-rows μ-rows
+rows-less c = omega arith
+
+rows-again : tie.Need-rows-again Inv-rows μ-rows
+rows-again c =
+    let a = c .before .before .before .before .before in
+    let l = c .before .before .before .rows in
+    (omega arith, phase-after (a .args .file .now) (a .args .rows) (a .pre) (l .row) (c .before .before .rows-test .taken) (c .before .row-phase .result) (c .before .row-phase .ensures) (l .inv .1) (omega arith))
+
+returns-2 : tie.Need-returns-2 Inv-rows μ-rows
+returns-2 c = phase-missing (netlistOf (c .before .before .before .args .file .now)) (c .before .before .before .args .rows) (c .before .rows .row) (c .rows-test .left) (c .before .rows .inv .1)
+
+pub first-phase-spec : {M : Type 1} → statement M
+first-phase-spec =
+    tie.close
+    (tie.spec
+    Inv-rows
+    μ-rows
+    rows-holds
+    row-phase-requires
+    returns
+    add-row
+    rows-less
+    rows-again
+    returns-2)

@@ -1,0 +1,123 @@
+// Questions 1 to 15.
+ghost use mathlib.Core.Path.{_≡_};
+ghost use mathlib.Core.List.{_∷_};
+ghost use Prim.Native.Nat.{_+_, _<_, _≤_};
+ghost use lib.ListN.{length};
+ghost use Rattle.memory.specs.Lists.{firstFrom};
+ghost use Rattle.netlist.specs.Limits.{mostRows};
+ghost use Rattle.netlist.specs.Rows.{decodeRow, phaseOf};
+ghost use Rattle.netlist.specs.FileFormat.{rowOffset, readFields, netlistOf};
+ghost use Rattle.questions.specs.Questions.{originalRefusal};
+ghost use Rattle.blockfile.specs.Ready.{Ready};
+ghost use Rattle.fold_core.specs.EarlyAnswers.{hasPhase, argumentQuestions, AnswersTo};
+ghost use Rattle.fold_core.specs.FoldParts.{Questioned};
+use crate::FoldRefusal;
+use accept::Acceptance;
+
+// The row count of a file that passed, or the refusal.
+pub enum Asked {
+    Passed(usize),
+    Stopped(FoldRefusal),
+}
+
+// The limits of questions 11, 12, 14 and 15.
+const MOST_ROWS: usize = 1008;
+
+const MOST_REGISTERS: usize = 256;
+
+const MOST_PHASES: u32 = 8;
+
+const RESULT_BYTES: usize = 65536;
+
+const WORK_BYTES: usize = 49152;
+
+const CLOCK_ENTRIES: usize = 256;
+
+// The phase of a row: 0 if it is no input and no output.
+fn row_phase(file: &[u8], row: usize) -> usize
+    requires { ⌜ (row < mostRows) × (rowOffset row + 8 ≤ length (now file)) ⌝ }
+    ensures { λ r. ⌜ r ≡ phaseOf (decodeRow (readFields (now (file .entry)) row)) ⌝ }
+{
+    let fields = blockfile::read_row(file, row);
+    let kind = fields.kind;
+    match kind {
+        1 => fields.b,
+        6 => fields.c,
+        _ => 0,
+    }
+}
+
+// 13: the first row whose phase is not 0, or the row count.
+fn first_phase(file: &[u8], rows: usize) -> usize
+    requires { ⌜ Ready (now file) rows ⌝ }
+    ensures { λ r. ⌜ r ≡ firstFrom 0 rows (hasPhase (netlistOf (now (file .entry)))) ⌝ }
+{
+    let mut row = 0;
+    'rows: while row < rows {
+        let phase = row_phase(file, row);
+        if phase != 0 {
+            return row;
+        }
+        row += 1;
+    }
+    rows
+}
+
+// 14 and 15: the wish, and the lengths of what is lent; where both are right, the row count is handed on.
+fn ask_arguments(rows: usize, wish: u32, result: usize, work: usize, clocks: usize) -> Asked
+    ensures { λ r. ⌜ AnswersTo (argumentQuestions wish result work clocks) rows r ⌝ }
+{
+    if MOST_PHASES < wish {
+        return Asked::Stopped(FoldRefusal::Wish);
+    }
+    let result_right = RESULT_BYTES <= result;
+    let work_right = WORK_BYTES <= work;
+    let clocks_right = CLOCK_ENTRIES <= clocks;
+    let both_right = blockfile::count::both(result_right, work_right);
+    let lent = blockfile::count::both(both_right, clocks_right);
+    if lent {
+        Asked::Passed(rows)
+    } else {
+        Asked::Stopped(FoldRefusal::Memory)
+    }
+}
+
+// 11 to 13 of an accepted file of this many rows, then 14 and 15.
+fn ask_original(
+    file: &[u8],
+    rows: usize,
+    wish: u32,
+    result: usize,
+    work: usize,
+    clocks: usize,
+) -> Asked
+    requires { ⌜ Ready (now file) rows ⌝ }
+    ensures { λ r. ⌜ AnswersTo (originalRefusal (netlistOf (now (file .entry))) ∷ argumentQuestions wish result work clocks) rows r ⌝ }
+{
+    if MOST_ROWS < rows {
+        return Asked::Stopped(FoldRefusal::Rows);
+    }
+    let counts = blockfile::count::count_rows(file, rows);
+    if MOST_REGISTERS < counts.registers {
+        return Asked::Stopped(FoldRefusal::Registers);
+    }
+    let phased = first_phase(file, rows);
+    if phased < rows {
+        let place = phased as u32;
+        return Asked::Stopped(FoldRefusal::Phase { row: place });
+    }
+    ask_arguments(rows, wish, result, work, clocks)
+}
+
+// 1 to 15, from the file, the wish, and the lengths of result, work and clock list.
+pub fn ask(file: &[u8], wish: u32, result: usize, work: usize, clocks: usize) -> Asked
+    ensures { λ r. ⌜ Questioned (now (file .entry)) wish result work clocks r ⌝ }
+{
+    match accept::accept(file) {
+        Acceptance::Accepted => {
+            let rows = accept::row_count(file);
+            ask_original(file, rows, wish, result, work, clocks)
+        }
+        Acceptance::Refused(refusal) => Asked::Stopped(FoldRefusal::File(refusal)),
+    }
+}
