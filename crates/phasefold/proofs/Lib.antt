@@ -2,3 +2,5 @@
 pub mod AnswerLaws
 pub mod ShowLaws
 pub mod ForeignLaws
+pub mod FoldedLaws
+pub mod ForeignFoldLaws

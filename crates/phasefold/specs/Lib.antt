@@ -2,3 +2,5 @@
 pub mod Answers
 pub mod Outcomes
 pub mod ForeignAnswers
+pub mod FoldedOutcome
+pub mod ForeignFold

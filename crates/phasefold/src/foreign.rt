@@ -5,11 +5,16 @@ ghost use Rattle.questions.specs.Questions.{fileRefusal};
 ghost use Rattle.blockfile.specs.CountCode.{countsIn, EachAtMost};
 ghost use Rattle.run_core.specs.RunAnswers.{runRefusalIn};
 ghost use Rattle.accept.specs.Refusals.{refusalIn};
+ghost use Rattle.fold_core.specs.FoldAnswers.{foldRefusalIn};
 ghost use Rattle.phasefold.specs.ForeignAnswers.{refusalNumbers, acceptedCounts, countNumbers, RanFlat};
+ghost use Rattle.phasefold.specs.ForeignFold.{foldedNumbers, FoldedFlat};
 use super::CountAnswer;
 use accept::Acceptance;
 use accept::FileRefusal;
 use blockfile::count::Counts;
+use clock_list::Clock;
+use fold_core::FoldRefusal;
+use fold_core::Folding;
 use run_core::RunAnswer;
 use run_core::RunRefusal;
 
@@ -137,4 +142,93 @@ pub extern "C" fn pf_run(
         },
         RunAnswer::Refused(refusal) => run_numbers(refusal),
     }
+}
+
+// Fold's numbers are 0 where it refuses.
+#[repr(C)]
+pub struct PfFolded {
+    pub number: u32,
+    pub place: u32,
+    pub stem: u32,
+    pub cycle: u32,
+    pub phases: u32,
+    pub used: u32,
+    pub before: u32,
+    pub after: u32,
+}
+
+fn fold_numbers(refusal: FoldRefusal) -> PfRefusal
+    ensures { λ r. ⌜ r ≡ refusalNumbers (foldRefusalIn refusal) ⌝ }
+{
+    match refusal {
+        FoldRefusal::File(file) => file_numbers(file),
+        FoldRefusal::Rows => PfRefusal {
+            number: 11,
+            place: 0,
+        },
+        FoldRefusal::Registers => PfRefusal {
+            number: 12,
+            place: 0,
+        },
+        FoldRefusal::Phase { row } => PfRefusal {
+            number: 13,
+            place: row,
+        },
+        FoldRefusal::Wish => PfRefusal {
+            number: 14,
+            place: 0,
+        },
+        FoldRefusal::Memory => PfRefusal {
+            number: 15,
+            place: 0,
+        },
+        FoldRefusal::NoLasso => PfRefusal {
+            number: 16,
+            place: 0,
+        },
+    }
+}
+
+fn folded_numbers(answer: Folding) -> PfFolded
+    ensures { λ r. ⌜ r ≡ foldedNumbers answer ⌝ }
+{
+    match answer {
+        Folding::Done(numbers) => PfFolded {
+            number: 0,
+            place: 0,
+            stem: numbers.stem,
+            cycle: numbers.cycle,
+            phases: numbers.phases,
+            used: numbers.used,
+            before: numbers.before,
+            after: numbers.after,
+        },
+        Folding::Refused(refusal) => {
+            let refused = fold_numbers(refusal);
+            PfFolded {
+                number: refused.number,
+                place: refused.place,
+                stem: 0,
+                cycle: 0,
+                phases: 0,
+                used: 0,
+                before: 0,
+                after: 0,
+            }
+        }
+    }
+}
+
+#[no_mangle]
+pub extern "C" fn pf_fold(
+    file: &[u8],
+    wish: u32,
+    result: &mut [u8],
+    work: &mut [u8],
+    clocks: &mut [Clock],
+) -> PfFolded
+    ensures { λ r. ⌜ FoldedFlat (now (file .entry)) wish (now (result .entry)) (now (result .exit)) (now (work .entry)) (now (work .exit)) (now (clocks .entry)) (now (clocks .exit)) r ⌝ }
+{
+    let answer = super::fold(file, wish, result, work, clocks);
+    folded_numbers(answer)
 }

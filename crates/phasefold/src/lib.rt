@@ -1,11 +1,14 @@
-// The phase folder's public library: Check, Count, Show and Run.
+// The phase folder's public library: Check, Count, Show, Run and Fold.
 ghost use mathlib.Core.Path.{_≡_};
 ghost use Rattle.accept.specs.Refusals.{numberOf, placeOf};
 ghost use Rattle.phasefold.specs.Outcomes.{Checked, Counted, Shown};
+ghost use Rattle.phasefold.specs.FoldedOutcome.{Folded};
 ghost use Rattle.run_core.specs.Ran.{Ran};
 use accept::Acceptance;
 use accept::FileRefusal;
 use blockfile::count::Counts;
+use clock_list::Clock;
+use fold_core::Folding;
 use run_core::RunAnswer;
 
 pub mod foreign;
@@ -109,4 +112,22 @@ pub fn run(
     ensures { λ r. ⌜ Ran (now (file .entry)) steps (now (choices .entry)) (now (inputs .entry)) (now (result .entry)) (now (result .exit)) (now (work .entry)) (now (work .exit)) r ⌝ }
 {
     run_core::run_core(file, steps, choices, inputs, result, work)
+}
+
+// The fold, its clock entries in the list and its file in the result; work is cleared.
+pub fn fold(
+    file: &[u8],
+    wish: u32,
+    result: &mut [u8],
+    work: &mut [u8],
+    clocks: &mut [Clock],
+) -> Folding
+    ensures { λ r. ⌜ Folded (now (file .entry)) wish (now (result .entry)) (now (result .exit)) (now (work .entry)) (now (work .exit)) (now (clocks .entry)) (now (clocks .exit)) r ⌝ }
+{
+    let count = clocks.len();
+    let answer = fold_core::fold_core(file, wish, result, work, count);
+    let used = fold_core::used_of(answer);
+    clock_list::set_clocks(clocks, work, used);
+    memory::clear(work);
+    answer
 }

@@ -1,0 +1,2 @@
+-- The clock list's entries in code.
+pub mod ClockCode
