@@ -1,0 +1,168 @@
+//! The operations that are measured: each on one file, by the library and by the twin.
+//! No buffer is cleared before an operation; both sides get the same buffers.
+
+use crate::netlist::{
+    constant, encode, input, output, random_netlist, register, row, Random, Row, Shape,
+};
+use crate::twin::Clock;
+use crate::{library, twin};
+
+pub enum Task {
+    Check,
+    Count,
+    Run { steps: u32, choices: Vec<u8>, inputs: Vec<u8> },
+    Fold { wish: u32 },
+}
+
+pub struct Case {
+    pub name: String,
+    /// The highest ratio that is aimed at.
+    pub target: Option<f64>,
+    /// The highest time that is aimed at, in microseconds.
+    pub most: Option<f64>,
+    task: Task,
+    file: Vec<u8>,
+    result: Vec<u8>,
+    work: Vec<u8>,
+    clocks: Vec<Clock>,
+}
+
+#[derive(Clone, Copy, PartialEq)]
+pub enum Side {
+    Library,
+    Twin,
+}
+
+impl Case {
+    /// A target of 0 is none.
+    fn new(name: &str, target: f64, task: Task, file: Vec<u8>) -> Case {
+        Case {
+            name: name.to_string(),
+            target: (target > 0.0).then_some(target),
+            most: None,
+            task,
+            file,
+            result: vec![0; 65_536],
+            work: vec![0; 49_152],
+            clocks: vec![Clock { label: 0, period: 0, word: 0, ones: 0 }; 256],
+        }
+    }
+
+    /// Does the operation once; answers whether the file was accepted.
+    pub fn once(&mut self, side: Side) -> bool {
+        let Case { file, result, work, clocks, .. } = self;
+        let ours = side == Side::Library;
+        match &self.task {
+            Task::Check if ours => library::check(file).is_ok(),
+            Task::Check => twin::check(file).is_ok(),
+            Task::Count if ours => library::count(file).is_ok(),
+            Task::Count => twin::count(file).is_ok(),
+            Task::Run { steps, choices, inputs } if ours => {
+                library::run(file, *steps, choices, inputs, result, &mut work[..16_384]).is_ok()
+            }
+            Task::Run { steps, choices, inputs } => {
+                twin::run(file, *steps, choices, inputs, result, &mut work[..16_384]).is_ok()
+            }
+            Task::Fold { wish } if ours => library::fold(file, *wish, result, work, clocks).is_ok(),
+            Task::Fold { wish } => twin::fold(file, *wish, result, work, clocks).is_ok(),
+        }
+    }
+}
+
+fn random_file(nodes: usize, outputs: usize) -> Vec<u8> {
+    let shape = Shape { nodes, outputs, registers: 3, inputs: 2, phases: true, rings: 0 };
+    encode(&random_netlist(&mut Random(4), shape))
+}
+
+fn run_case(nodes: usize, outputs: usize, steps: u32, target: f64) -> Case {
+    let file = random_file(nodes, outputs);
+    let counts = twin::count(&file).unwrap();
+    let mut random = Random(5);
+    let choices = random.bits(counts.unknown as usize);
+    let inputs = random.bits(steps as usize * counts.inputs as usize);
+    let name = format!("Run, {} rows x {steps}", nodes + outputs);
+    Case::new(&name, target, Task::Run { steps, choices, inputs }, file)
+}
+
+/// Binary counter from 0, its registers first.
+fn push_counter(rows: &mut Vec<Row>, bits: usize, label: usize) {
+    let first = rows.len();
+    for i in 0..bits {
+        rows.push(register(0, 2 * (first + bits + 2 * i), label + i));
+    }
+    let mut carry = 1;
+    for i in 0..bits {
+        rows.push(row(4, 0, 2 * (first + i), carry, 0));
+        rows.push(row(3, 0, 2 * (first + i), carry, 0));
+        carry = 2 * (rows.len() - 1);
+    }
+}
+
+/// 1,008 rows, 256 registers, 256 states that differ in their last registers only, eight phases, and
+/// nearly all made rows are kept: each stage has about as much to do as it can have.
+fn longest_lasso() -> Vec<Row> {
+    let (held, bits, all) = (248, 8, 1008);
+    let mut rows = vec![constant()];
+    for i in 0..held {
+        rows.push(register(2, 2 * (all - 2 - i), i));
+    }
+    push_counter(&mut rows, bits, held);
+    while rows.len() < all - 1 {
+        let at = rows.len();
+        rows.push(row(5, 0, 2 * (1 + at % held), 2 * (at - 1) + 1, 2 * (1 + (at * 7) % held)));
+    }
+    rows.push(output(2 * (all - 2), 0, 0));
+    rows
+}
+
+/// Eight phases, and 247 registers that the cone reaches one after the other in ascending order, from
+/// the one output that is not constant: 247 sweeps if the cone is found by sweeps from the last row.
+fn longest_cone() -> Vec<Row> {
+    let (ring, chain, all) = (8, 247, 1008);
+    let step = (1..chain).find(|s| 8 * s % chain == 1).unwrap();
+    let mut rows = vec![constant()];
+    for i in 0..ring {
+        rows.push(register((i == 0) as u8, 2 * (1 + (i + ring - 1) % ring), i));
+    }
+    let first = rows.len();
+    for i in 0..chain {
+        rows.push(register(2, 2 * (first + (i + step) % chain), ring + i));
+    }
+    rows.push(input(0, 0));
+    while rows.len() < all - 2 {
+        let at = rows.len();
+        rows.push(row(3, 0, 2 * (at - 1), 2 * (first + at % chain) + 1, 0));
+    }
+    rows.push(row(3, 0, 2, 2 * first, 0));
+    rows.push(output(2 * (all - 2), 0, 0));
+    rows
+}
+
+pub fn all_cases(designs: &[(String, Vec<u8>)]) -> Vec<Case> {
+    let (whole, block) = (random_file(8000, 64), random_file(60, 3));
+    let mut cases = vec![
+        Case::new("Check, 8064 rows", 1.5, Task::Check, whole.clone()),
+        Case::new("Check, 63 rows", 3.0, Task::Check, block.clone()),
+        Case::new("Count, 8064 rows", 0.0, Task::Count, whole),
+        Case::new("Count, 63 rows", 0.0, Task::Count, block),
+        run_case(1000, 8, 4096, 1.2),
+        run_case(60, 3, 1, 0.0),
+    ];
+    for (name, file) in designs {
+        let (target, wish) = match name.as_str() {
+            "w256_lasso" => (1.3, 0),
+            "w8_fold" => (1.5, 8),
+            "c8" | "t_toggle1" => (0.0, 0),
+            _ => (1.5, 0),
+        };
+        let task = Task::Fold { wish };
+        cases.push(Case::new(&format!("Fold, {name}, wish {wish}"), target, task, file.clone()));
+    }
+    for (name, rows) in [("longest lasso", longest_lasso()), ("longest cone", longest_cone())] {
+        let task = Task::Fold { wish: 0 };
+        let mut case = Case::new(&format!("Fold, {name}"), 0.0, task, encode(&rows));
+        case.most = Some(3000.0);
+        cases.push(case);
+    }
+    cases
+}

@@ -1,0 +1,210 @@
+//! Compares the library's answers, and all memory lent to it, with the twin's.
+
+use crate::netlist::{
+    constant, damage, encode, input, output, random_netlist, random_shape, register, row, Random,
+    Shape,
+};
+use crate::twin::{Clock, Folded, Refusal};
+use crate::{library, twin};
+
+/// What was compared: how often the twin answered each number, 0 for success, and how often the
+/// library differed.
+#[derive(Default)]
+struct Tally {
+    answered: [usize; 22],
+    differences: usize,
+}
+
+impl Tally {
+    /// Counts one comparison; the first differences are told.
+    fn add<T>(&mut self, twin: &Result<T, Refusal>, same: bool, story: impl FnOnce() -> String) {
+        let number = twin.as_ref().err().map_or(0, |refusal| refusal.number);
+        self.answered[number as usize] += 1;
+        if !same {
+            self.differences += 1;
+            if self.differences <= 5 {
+                println!("DIFFERENCE: {}", story());
+            }
+        }
+    }
+
+    fn print(&self, name: &str) {
+        let all: usize = self.answered.iter().sum();
+        print!(
+            "{name:5} {all:6} compared, {} differences; {} accepted, refused by number:",
+            self.differences, self.answered[0]
+        );
+        for (number, times) in
+            self.answered.iter().enumerate().skip(1).filter(|(_, &times)| times > 0)
+        {
+            print!(" {number}: {times}");
+        }
+        println!();
+    }
+}
+
+/// A file of at most `most` rows, sound or damaged.
+fn random_file(random: &mut Random, most: usize, phases: bool) -> Vec<u8> {
+    let shape = random_shape(random, most, phases);
+    let file = encode(&random_netlist(random, shape));
+    if random.one_in(2) {
+        damage(&file, random)
+    } else {
+        file
+    }
+}
+
+/// Files of lengths 0, 511, 65,536 and 66,048; the third is sound.
+fn edge_files(random: &mut Random) -> [Vec<u8>; 4] {
+    let shape = Shape { nodes: 8063, outputs: 1, registers: 3, inputs: 3, phases: true, rings: 4 };
+    let whole = encode(&random_netlist(random, shape));
+    let longer = [&whole[..], &[0; 512]].concat();
+    [vec![], vec![0; 511], whole, longer]
+}
+
+fn compare_checks(files: usize) -> [Tally; 2] {
+    let mut random = Random(1);
+    let (mut checks, mut counts) = (Tally::default(), Tally::default());
+    let mut compare = |file: &[u8]| {
+        let (ours, other) = (library::check(file), twin::check(file));
+        checks.add(&other, ours == other, || format!("Check {ours:?}, twin {other:?}"));
+        let (ours, other) = (library::count(file), twin::count(file));
+        counts.add(&other, ours == other, || format!("Count {ours:?}, twin {other:?}"));
+    };
+    for file in edge_files(&mut random) {
+        compare(&file);
+    }
+    for _ in 0..files {
+        let most = if random.one_in(20) { 8064 } else { 600 };
+        compare(&random_file(&mut random, most, true));
+    }
+    [checks, counts]
+}
+
+/// A length, sometimes one off.
+fn nearly(random: &mut Random, length: usize) -> usize {
+    match random.below(24) {
+        0 => length + 1,
+        1 => length.saturating_sub(1),
+        _ => length,
+    }
+}
+
+fn values(random: &mut Random, length: usize) -> Vec<u8> {
+    let count = nearly(random, length);
+    let mut values = random.bits(count);
+    if count > 0 && random.one_in(24) {
+        values[random.below(count)] = 2;
+    }
+    values
+}
+
+fn compare_runs(files: usize) -> Tally {
+    let mut random = Random(2);
+    let mut tally = Tally::default();
+    for _ in 0..files {
+        let file = random_file(&mut random, 400, true);
+        let [unknown, inputs, outputs] = match twin::count(&file) {
+            Ok(counts) => [counts.unknown, counts.inputs, counts.outputs].map(|n| n as usize),
+            Err(_) => [1, 1, 1],
+        };
+        let steps = if random.one_in(40) { 4096 + random.below(2) } else { random.below(20) };
+        let choices = values(&mut random, unknown);
+        let given = values(&mut random, steps * inputs);
+        let result = vec![0xA5; nearly(&mut random, steps * outputs)];
+        let work = vec![0x5A; nearly(&mut random, 16_384)];
+        let [mut mine, mut others] = [(result.clone(), work.clone()), (result, work)];
+        let ours = library::run(&file, steps as u32, &choices, &given, &mut mine.0, &mut mine.1);
+        let other = twin::run(&file, steps as u32, &choices, &given, &mut others.0, &mut others.1);
+        let same = ours == other && mine == others;
+        tally.add(&other, same, || {
+            let parts = [mine.0 == others.0, mine.1 == others.1];
+            format!("Run {ours:?}, twin {other:?}, {steps} steps; result, work same: {parts:?}")
+        });
+    }
+    tally
+}
+
+const UNSET: Clock = Clock { label: 0xA5A5, period: 0xA5, word: 0xA5, ones: 0xA5A5_A5A5 };
+
+fn compare_fold(tally: &mut Tally, random: &mut Random, file: &[u8], wish: u32) {
+    let result = vec![0xA5; nearly(random, 65_536)];
+    let work = vec![0x5A; nearly(random, 49_152)];
+    let clocks = vec![UNSET; nearly(random, 256)];
+    let [mut mine, mut others] =
+        [(result.clone(), work.clone(), clocks.clone()), (result, work, clocks)];
+    let ours = library::fold(file, wish, &mut mine.0, &mut mine.1, &mut mine.2);
+    let other = twin::fold(file, wish, &mut others.0, &mut others.1, &mut others.2);
+    let same = ours == other && mine == others;
+    tally.add(&other, same, || {
+        let parts = [mine.0 == others.0, mine.1 == others.1, mine.2 == others.2];
+        format!("Fold {ours:?}, twin {other:?}, wish {wish}; result, work, clocks same: {parts:?}")
+    });
+}
+
+fn compare_folds(files: usize, designs: &[(String, Vec<u8>)]) -> Tally {
+    let mut random = Random(3);
+    let mut tally = Tally::default();
+    for (_, file) in designs {
+        for wish in 0..=9 {
+            compare_fold(&mut tally, &mut random, file, wish);
+        }
+    }
+    for _ in 0..files {
+        let most = if random.one_in(8) { 1300 } else { 400 };
+        let phases = random.one_in(8);
+        let file = random_file(&mut random, most, phases);
+        let wish = if random.one_in(2) { 0 } else { random.below(10) as u32 };
+        compare_fold(&mut tally, &mut random, &file, wish);
+    }
+    tally
+}
+
+/// The scope paper's sample, and its fold.
+fn sample_is_right() -> bool {
+    let sample = encode(&[
+        constant(),
+        input(0, 0),
+        register(0, 5, 0),
+        register(0, 10, 1),
+        register(0, 12, 2),
+        row(5, 0, 4, 2, 6),
+        row(5, 0, 4, 8, 6),
+        output(8, 0, 0),
+    ]);
+    let folded = encode(&[
+        constant(),
+        register(0, 6, 1),
+        register(0, 2, 2),
+        input(0, 1),
+        output(4, 0, 0),
+        output(2, 0, 1),
+    ]);
+    let numbers = Folded { stem: 3, cycle: 2, phases: 2, used: 1, before: 8, after: 6 };
+    let clock = Clock { label: 0, period: 2, word: 2, ones: 1 };
+    [library::fold, twin::fold].iter().all(|fold| {
+        let (mut result, mut work, mut clocks) =
+            (vec![1; 65_536], vec![1; 49_152], vec![UNSET; 256]);
+        let answer = fold(&sample, 0, &mut result, &mut work, &mut clocks);
+        let rest_is_zero = result[folded.len()..].iter().chain(&work).all(|&byte| byte == 0);
+        let listed = clocks[0] == clock && clocks[1..].iter().all(|&entry| entry == UNSET);
+        answer == Ok(numbers) && result.starts_with(&folded) && rest_is_zero && listed
+    })
+}
+
+/// Compares all operations; answers the number of differences.
+pub fn compare_all(designs: &[(String, Vec<u8>)]) -> usize {
+    let [checks, counts] = compare_checks(10_000);
+    let runs = compare_runs(4_000);
+    let folds = compare_folds(6_000, designs);
+    let all = [("Check", checks), ("Count", counts), ("Run", runs), ("Fold", folds)];
+    for (name, tally) in &all {
+        tally.print(name);
+    }
+    let sample = sample_is_right();
+    println!(
+        "The scope paper's sample is folded {} by both.",
+        if sample { "right" } else { "NOT right" }
+    );
+    all.iter().map(|(_, tally)| tally.differences).sum::<usize>() + usize::from(!sample)
+}

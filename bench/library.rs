@@ -1,0 +1,117 @@
+//! The library's C interface (include/phasefold.h), and its answers in the twin's types.
+
+use crate::twin::{Clock, Counts, Folded, Refusal};
+
+#[repr(C)]
+struct PfCounts {
+    refusal: PfRefusal,
+    counts: [u32; 5],
+}
+
+#[repr(C)]
+struct PfFolded {
+    refusal: PfRefusal,
+    numbers: [u32; 6],
+}
+
+#[repr(C)]
+struct PfRefusal {
+    number: u32,
+    place: u32,
+}
+
+extern "C" {
+    fn pf_check(file: *const u8, file_len: usize) -> PfRefusal;
+    fn pf_count(file: *const u8, file_len: usize) -> PfCounts;
+    fn pf_fold(
+        file: *const u8,
+        file_len: usize,
+        wish: u32,
+        result: *mut u8,
+        result_len: usize,
+        work: *mut u8,
+        work_len: usize,
+        clocks: *mut Clock,
+        clocks_len: usize,
+    ) -> PfFolded;
+    fn pf_run(
+        file: *const u8,
+        file_len: usize,
+        steps: u32,
+        choices: *const u8,
+        choices_len: usize,
+        inputs: *const u8,
+        inputs_len: usize,
+        result: *mut u8,
+        result_len: usize,
+        work: *mut u8,
+        work_len: usize,
+    ) -> PfRefusal;
+}
+
+fn answer<T>(refusal: PfRefusal, success: T) -> Result<T, Refusal> {
+    match refusal {
+        PfRefusal { number: 0, place: 0 } => Ok(success),
+        PfRefusal { number, place } => Err(Refusal { number, place }),
+    }
+}
+
+pub fn check(file: &[u8]) -> Result<(), Refusal> {
+    answer(unsafe { pf_check(file.as_ptr(), file.len()) }, ())
+}
+
+pub fn count(file: &[u8]) -> Result<Counts, Refusal> {
+    let told = unsafe { pf_count(file.as_ptr(), file.len()) };
+    let [nodes, inputs, registers, unknown, outputs] = told.counts;
+    answer(told.refusal, Counts { nodes, inputs, registers, unknown, outputs })
+}
+
+pub fn run(
+    file: &[u8],
+    steps: u32,
+    choices: &[u8],
+    inputs: &[u8],
+    result: &mut [u8],
+    work: &mut [u8],
+) -> Result<(), Refusal> {
+    let refusal = unsafe {
+        pf_run(
+            file.as_ptr(),
+            file.len(),
+            steps,
+            choices.as_ptr(),
+            choices.len(),
+            inputs.as_ptr(),
+            inputs.len(),
+            result.as_mut_ptr(),
+            result.len(),
+            work.as_mut_ptr(),
+            work.len(),
+        )
+    };
+    answer(refusal, ())
+}
+
+pub fn fold(
+    file: &[u8],
+    wish: u32,
+    result: &mut [u8],
+    work: &mut [u8],
+    clocks: &mut [Clock],
+) -> Result<Folded, Refusal> {
+    let told = unsafe {
+        pf_fold(
+            file.as_ptr(),
+            file.len(),
+            wish,
+            result.as_mut_ptr(),
+            result.len(),
+            work.as_mut_ptr(),
+            work.len(),
+            clocks.as_mut_ptr(),
+            clocks.len(),
+        )
+    };
+    let [stem, cycle, phases, used, before, after] = told.numbers;
+    answer(told.refusal, Folded { stem, cycle, phases, used, before, after })
+}

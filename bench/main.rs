@@ -1,0 +1,101 @@
+//! Compares the library with a plain Rust twin: first the answers, then the time.
+//!
+//!     main DESIGNS                            compare, then print the table of ratios;
+//!                                             exit status 1 if an answer differs
+//!     main DESIGNS --list                     print the names of the measured operations
+//!     main DESIGNS --one NUMBER library|twin  do one of them, for a count of instructions
+
+mod cases;
+mod compare;
+mod library;
+mod netlist;
+mod twin;
+
+use cases::{Case, Side};
+use std::hint::black_box;
+use std::process::exit;
+use std::time::Instant;
+
+/// The designs of a folder, by name.
+fn read_designs(folder: &str) -> Vec<(String, Vec<u8>)> {
+    let mut paths: Vec<_> =
+        std::fs::read_dir(folder).expect("designs").map(|entry| entry.unwrap().path()).collect();
+    paths.retain(|path| path.extension().is_some_and(|e| e == "pf"));
+    paths.sort();
+    let name = |path: &std::path::Path| path.file_stem().unwrap().to_string_lossy().into_owned();
+    paths.iter().map(|path| (name(path), std::fs::read(path).unwrap())).collect()
+}
+
+/// What a count of instructions is limited to.
+#[no_mangle]
+#[inline(never)]
+fn measured_operation(case: &mut Case, side: Side) -> bool {
+    case.once(side)
+}
+
+/// Microseconds of one operation, over a batch.
+fn time_batch(case: &mut Case, side: Side, batch: u32) -> f64 {
+    let start = Instant::now();
+    for _ in 0..batch {
+        black_box(case.once(side));
+    }
+    start.elapsed().as_secs_f64() * 1e6 / f64::from(batch)
+}
+
+/// The best time of each side, in turns: at least 40 batches, and for a second.
+fn best_times(case: &mut Case) -> (f64, f64) {
+    let first = time_batch(case, Side::Twin, 1).max(0.05);
+    let batch = (300.0 / first).clamp(1.0, 2000.0) as u32;
+    let (mut ours, mut twin) = (f64::MAX, f64::MAX);
+    let start = Instant::now();
+    let mut rounds = 0;
+    while rounds < 40 || start.elapsed().as_millis() < 1000 {
+        ours = ours.min(time_batch(case, Side::Library, batch));
+        twin = twin.min(time_batch(case, Side::Twin, batch));
+        rounds += 1;
+    }
+    (ours, twin)
+}
+
+fn verdict(case: &Case, ours: f64, ratio: f64) -> String {
+    let goal = match (case.target, case.most) {
+        (Some(target), _) => (format!("at most {target}"), ratio <= target),
+        (_, Some(most)) => (format!("at most {most} µs"), ours <= most),
+        _ => return String::new(),
+    };
+    format!("{}{}", goal.0, if goal.1 { "" } else { ": MISSED" })
+}
+
+fn print_table(mut cases: Vec<Case>) {
+    println!("{:28} {:>11} {:>11} {:>6}  target", "", "library µs", "twin µs", "ratio");
+    for case in &mut cases {
+        let (ours, twin) = best_times(case);
+        let ratio = ours / twin;
+        println!(
+            "{:28} {ours:11.2} {twin:11.2} {ratio:6.2}  {}",
+            case.name,
+            verdict(case, ours, ratio)
+        );
+    }
+}
+
+fn main() {
+    let words: Vec<String> = std::env::args().skip(1).collect();
+    let designs = read_designs(&words[0]);
+    let mut cases = cases::all_cases(&designs);
+    let rest: Vec<&str> = words[1..].iter().map(String::as_str).collect();
+    match rest[..] {
+        [] => {
+            let differences = compare::compare_all(&designs);
+            print_table(cases);
+            exit((differences > 0) as i32);
+        }
+        ["--list"] => cases.iter().for_each(|case| println!("{}", case.name)),
+        ["--one", number, side] => {
+            let side = if side == "library" { Side::Library } else { Side::Twin };
+            let case = &mut cases[number.parse::<usize>().expect("a number")];
+            black_box(measured_operation(case, side));
+        }
+        _ => exit(2),
+    }
+}

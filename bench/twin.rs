@@ -1,0 +1,731 @@
+//! A plain Rust phase folder, written from the scope paper alone: the answers and the speed of the
+//! library are compared with it. It allocates what it needs and clears `work` as the paper asks.
+
+/// The number of the question that was answered no, and its place.
+#[derive(Clone, Copy, PartialEq, Eq, Debug)]
+pub struct Refusal {
+    pub number: u32,
+    pub place: u32,
+}
+
+#[derive(Clone, Copy, PartialEq, Eq, Debug)]
+pub struct Counts {
+    pub nodes: u32,
+    pub inputs: u32,
+    pub registers: u32,
+    pub unknown: u32,
+    pub outputs: u32,
+}
+
+#[derive(Clone, Copy, PartialEq, Eq, Debug)]
+pub struct Folded {
+    pub stem: u32,
+    pub cycle: u32,
+    pub phases: u32,
+    pub used: u32,
+    pub before: u32,
+    pub after: u32,
+}
+
+#[repr(C)]
+#[derive(Clone, Copy, PartialEq, Eq, Debug)]
+pub struct Clock {
+    pub label: u16,
+    pub period: u8,
+    pub word: u8,
+    pub ones: u32,
+}
+
+const BLOCK: usize = 512;
+const MOST_BYTES: usize = 65_536;
+const ROWS_A_BLOCK: usize = 63;
+
+const CONSTANT: u8 = 0;
+const INPUT: u8 = 1;
+const REGISTER: u8 = 2;
+const AND: u8 = 3;
+const XOR: u8 = 4;
+const MUX: u8 = 5;
+const OUTPUT: u8 = 6;
+
+#[derive(Clone, Copy)]
+struct Row {
+    kind: u8,
+    reset: u8,
+    a: u16,
+    b: u16,
+    c: u16,
+}
+
+fn refuse<T>(number: u32, place: usize) -> Result<T, Refusal> {
+    Err(Refusal { number, place: place as u32 })
+}
+
+// ---- the file ----
+
+fn decode(bytes: &[u8]) -> Row {
+    let field = |at: usize| u16::from_le_bytes([bytes[at], bytes[at + 1]]);
+    Row { kind: bytes[0], reset: bytes[1], a: field(2), b: field(4), c: field(6) }
+}
+
+/// The bytes of each row of a block, in order.
+fn block_rows(block: &[u8]) -> std::slice::ChunksExact<'_, u8> {
+    block[4..4 + 8 * usize::from(block[2])].chunks_exact(8)
+}
+
+/// All rows of a file.
+fn decode_rows(file: &[u8]) -> Vec<Row> {
+    let mut rows = Vec::with_capacity(row_count(file));
+    for block in file.chunks_exact(BLOCK) {
+        rows.extend(block_rows(block).map(decode));
+    }
+    rows
+}
+
+fn row_count(file: &[u8]) -> usize {
+    let blocks = file.len() / BLOCK;
+    ROWS_A_BLOCK * (blocks - 1) + file[BLOCK * (blocks - 1) + 2] as usize
+}
+
+fn kind_of(file: &[u8], row: usize) -> u8 {
+    file[BLOCK * (row / ROWS_A_BLOCK) + 4 + 8 * (row % ROWS_A_BLOCK)]
+}
+
+fn word_sum(block: &[u8]) -> u32 {
+    block
+        .chunks_exact(4)
+        .map(|word| u32::from_le_bytes([word[0], word[1], word[2], word[3]]))
+        .fold(0, u32::wrapping_add)
+}
+
+/// Questions 2 to 5.
+fn check_block(block: &[u8], index: usize, last: bool) -> Result<(), Refusal> {
+    if word_sum(block) != u32::MAX {
+        return refuse(2, index);
+    }
+    if block[0] != if last { 2 } else { 1 } || block[1] as usize != index || block[3] != 0 {
+        return refuse(3, index);
+    }
+    let rows = block[2] as usize;
+    let least = if last { 1 } else { ROWS_A_BLOCK };
+    if rows < least || rows > ROWS_A_BLOCK {
+        return refuse(4, index);
+    }
+    if block[4 + 8 * rows..BLOCK - 4].iter().any(|&byte| byte != 0) {
+        return refuse(5, index);
+    }
+    Ok(())
+}
+
+/// Labels seen so far: a short list for one block, a bit for each key for more.
+enum Seen {
+    Few(Vec<u32>),
+    Many(Vec<u64>),
+}
+
+const KEYS: usize = 17 << 16;
+
+impl Seen {
+    fn new(rows: usize) -> Seen {
+        if rows <= ROWS_A_BLOCK {
+            Seen::Few(Vec::with_capacity(ROWS_A_BLOCK))
+        } else {
+            Seen::Many(vec![0; KEYS / 64])
+        }
+    }
+
+    /// Adds a key; says whether it is new.
+    fn add(&mut self, key: u32) -> bool {
+        match self {
+            Seen::Few(keys) => {
+                let new = !keys.contains(&key);
+                keys.push(key);
+                new
+            }
+            Seen::Many(bits) => {
+                let (word, bit) = (key as usize / 64, 1u64 << (key % 64));
+                let new = bits[word] & bit == 0;
+                bits[word] |= bit;
+                new
+            }
+        }
+    }
+}
+
+/// One number for kind, label and phase, if the row has a label.
+fn label_key(row: Row) -> Option<u32> {
+    match row.kind {
+        INPUT => Some((u32::from(row.b) << 16) + u32::from(row.a)),
+        OUTPUT => Some(((8 + u32::from(row.c)) << 16) + u32::from(row.b)),
+        REGISTER => Some((16 << 16) + u32::from(row.b)),
+        _ => None,
+    }
+}
+
+/// Question 7.
+fn fields_right(row: Row) -> bool {
+    let Row { kind, reset, a, b, c } = row;
+    match kind {
+        CONSTANT => reset == 0 && a == 0 && b == 0 && c == 0,
+        INPUT => reset == 0 && b <= 7 && c == 0,
+        REGISTER => reset <= 2 && c == 0,
+        AND | XOR => reset == 0 && c == 0,
+        MUX => reset == 0,
+        _ => reset == 0 && c <= 7,
+    }
+}
+
+/// Question 9.
+fn literals_right(file: &[u8], rows: usize, index: usize, row: Row) -> bool {
+    let node = |literal: u16| usize::from(literal / 2);
+    let below = |literal: u16| node(literal) < index;
+    let any = |literal: u16| node(literal) < rows && kind_of(file, node(literal)) != OUTPUT;
+    match row.kind {
+        REGISTER | OUTPUT => any(row.a),
+        AND | XOR => below(row.a) && below(row.b),
+        MUX => below(row.a) && below(row.b) && below(row.c),
+        _ => true,
+    }
+}
+
+/// Questions 6 to 9 of one row; `outputs` says whether an output came before, and is kept up.
+fn check_row(
+    file: &[u8],
+    rows: usize,
+    index: usize,
+    row: Row,
+    seen: &mut Seen,
+    outputs: &mut bool,
+) -> Result<(), Refusal> {
+    let output = row.kind == OUTPUT;
+    if row.kind > OUTPUT || (row.kind == CONSTANT) != (index == 0) || (*outputs && !output) {
+        return refuse(6, index);
+    }
+    *outputs |= output;
+    if !fields_right(row) {
+        return refuse(7, index);
+    }
+    if label_key(row).is_some_and(|key| !seen.add(key)) {
+        return refuse(8, index);
+    }
+    if !literals_right(file, rows, index, row) {
+        return refuse(9, index);
+    }
+    Ok(())
+}
+
+/// Questions 6 to 10.
+fn check_rows(file: &[u8]) -> Result<(), Refusal> {
+    let rows = row_count(file);
+    let mut seen = Seen::new(rows);
+    let mut outputs = false;
+    let mut index = 0;
+    for block in file.chunks_exact(BLOCK) {
+        for bytes in block_rows(block) {
+            check_row(file, rows, index, decode(bytes), &mut seen, &mut outputs)?;
+            index += 1;
+        }
+    }
+    if outputs {
+        Ok(())
+    } else {
+        refuse(10, 0)
+    }
+}
+
+/// Questions 1 to 10.
+pub fn check(file: &[u8]) -> Result<(), Refusal> {
+    if file.is_empty() || file.len() % BLOCK != 0 || file.len() > MOST_BYTES {
+        return refuse(1, 0);
+    }
+    let blocks = file.len() / BLOCK;
+    for (index, block) in file.chunks_exact(BLOCK).enumerate() {
+        check_block(block, index, index + 1 == blocks)?;
+    }
+    check_rows(file)
+}
+
+fn count_rows(file: &[u8]) -> Counts {
+    let mut of_kind = [0u32; 7];
+    let mut unknown = 0;
+    for bytes in file.chunks_exact(BLOCK).flat_map(block_rows) {
+        of_kind[usize::from(bytes[0])] += 1;
+        unknown += u32::from(bytes[1] == 2);
+    }
+    let rows: u32 = of_kind.iter().sum();
+    let [_, inputs, registers, .., outputs] = of_kind;
+    Counts { nodes: rows - outputs, inputs, registers, unknown, outputs }
+}
+
+pub fn count(file: &[u8]) -> Result<Counts, Refusal> {
+    check(file)?;
+    Ok(count_rows(file))
+}
+
+// ---- Run ----
+
+fn value(values: &[u8], literal: u16) -> u8 {
+    values[usize::from(literal / 2)] ^ (literal & 1) as u8
+}
+
+/// Where the rows of a kind stand.
+fn places(rows: &[Row], kind: u8) -> Vec<usize> {
+    (0..rows.len()).filter(|&i| rows[i].kind == kind).collect()
+}
+
+/// Questions 17 to 20.
+fn run_questions(
+    counts: Counts,
+    steps: usize,
+    choices: &[u8],
+    inputs: &[u8],
+    result: usize,
+    work: usize,
+) -> Result<(), Refusal> {
+    if steps > 4096 {
+        return refuse(17, 0);
+    }
+    if choices.len() != counts.unknown as usize || inputs.len() != steps * counts.inputs as usize {
+        return refuse(18, 0);
+    }
+    if choices.iter().chain(inputs).any(|&v| v > 1) {
+        return refuse(19, 0);
+    }
+    if result < steps * counts.outputs as usize || work < 16_384 {
+        return refuse(20, 0);
+    }
+    Ok(())
+}
+
+/// The gates' values, from the constant's, the inputs' and the registers'.
+fn settle(nodes: &[Row], values: &mut [u8]) {
+    for (i, row) in nodes.iter().enumerate() {
+        values[i] = match row.kind {
+            AND => value(values, row.a) & value(values, row.b),
+            XOR => value(values, row.a) ^ value(values, row.b),
+            MUX if value(values, row.a) == 1 => value(values, row.b),
+            MUX => value(values, row.c),
+            _ => continue,
+        };
+    }
+}
+
+fn simulate(
+    file: &[u8],
+    counts: Counts,
+    steps: usize,
+    choices: &[u8],
+    inputs: &[u8],
+    result: &mut [u8],
+) {
+    let rows = decode_rows(file);
+    let (nodes, outputs) = rows.split_at(counts.nodes as usize);
+    let (input_rows, registers) = (places(nodes, INPUT), places(nodes, REGISTER));
+    let mut values = vec![0u8; nodes.len()];
+    let mut choice = choices.iter();
+    for &r in &registers {
+        values[r] = if nodes[r].reset == 2 { *choice.next().unwrap() } else { nodes[r].reset };
+    }
+    let mut next = vec![0u8; registers.len()];
+    for step in 0..steps {
+        let given = &inputs[step * input_rows.len()..][..input_rows.len()];
+        for (&i, &v) in input_rows.iter().zip(given) {
+            values[i] = v;
+        }
+        settle(nodes, &mut values);
+        let shown = &mut result[step * outputs.len()..][..outputs.len()];
+        for (byte, output) in shown.iter_mut().zip(outputs) {
+            *byte = value(&values, output.a);
+        }
+        for (v, &r) in next.iter_mut().zip(&registers) {
+            *v = value(&values, nodes[r].a);
+        }
+        for (&v, &r) in next.iter().zip(&registers) {
+            values[r] = v;
+        }
+    }
+}
+
+pub fn run(
+    file: &[u8],
+    steps: u32,
+    choices: &[u8],
+    inputs: &[u8],
+    result: &mut [u8],
+    work: &mut [u8],
+) -> Result<(), Refusal> {
+    work.fill(0);
+    let counts = count(file)?;
+    let steps = steps as usize;
+    run_questions(counts, steps, choices, inputs, result.len(), work.len())?;
+    simulate(file, counts, steps, choices, inputs, result);
+    Ok(())
+}
+
+// ---- the lasso and the clocks ----
+
+const X: u8 = 2;
+const NOT3: [u8; 3] = [1, 0, 2];
+const AND3: [[u8; 3]; 3] = [[0, 0, 0], [0, 1, 2], [0, 2, 2]];
+const XOR3: [[u8; 3]; 3] = [[0, 1, 2], [1, 0, 2], [2, 2, 2]];
+
+fn value3(values: &[u8], literal: u16) -> u8 {
+    let v = values[usize::from(literal / 2)];
+    if literal & 1 == 0 {
+        v
+    } else {
+        NOT3[usize::from(v)]
+    }
+}
+
+/// The gates' three-valued values; every input is X.
+fn settle3(nodes: &[Row], values: &mut [u8]) {
+    for (i, row) in nodes.iter().enumerate() {
+        let operand = |literal: u16| usize::from(value3(values, literal));
+        values[i] = match row.kind {
+            AND => AND3[operand(row.a)][operand(row.b)],
+            XOR => XOR3[operand(row.a)][operand(row.b)],
+            MUX => match operand(row.a) {
+                1 => value3(values, row.b),
+                0 => value3(values, row.c),
+                _ => X,
+            },
+            _ => continue,
+        };
+    }
+}
+
+/// States 0 to m − 1, a byte for each register, and the state that m equals.
+struct Lasso {
+    states: Vec<u8>,
+    stem: usize,
+    end: usize,
+}
+
+const MOST_STATES: usize = 256;
+
+/// Question 16.
+fn find_lasso(nodes: &[Row], registers: &[usize]) -> Result<Lasso, Refusal> {
+    let size = registers.len();
+    if size == 0 {
+        return Ok(Lasso { states: Vec::new(), stem: 0, end: 1 });
+    }
+    let mut values = vec![0u8; nodes.len()];
+    for &i in &places(nodes, INPUT) {
+        values[i] = X;
+    }
+    let mut states = Vec::with_capacity(size * MOST_STATES);
+    let mut state: Vec<u8> = registers.iter().map(|&r| nodes[r].reset).collect();
+    for end in 0..=MOST_STATES {
+        if let Some(stem) = states.chunks_exact(size).position(|earlier| earlier == &state[..]) {
+            return Ok(Lasso { states, stem, end });
+        }
+        if end == MOST_STATES {
+            break;
+        }
+        states.extend_from_slice(&state);
+        for (&r, &v) in registers.iter().zip(&state) {
+            values[r] = v;
+        }
+        settle3(nodes, &mut values);
+        for (v, &r) in state.iter_mut().zip(registers) {
+            *v = value3(&values, nodes[r].a);
+        }
+    }
+    refuse(16, 0)
+}
+
+const MOST_PHASES: usize = 8;
+
+/// The period of register j, if it is at most 8: a longer one divides no phase count.
+fn period_of(lasso: &Lasso, size: usize, j: usize) -> Option<usize> {
+    let at = |t: usize| lasso.states[t * size + j];
+    let cycle = lasso.end - lasso.stem;
+    if (0..lasso.end).any(|t| at(t) == X) {
+        return None;
+    }
+    (1..=MOST_PHASES.min(cycle))
+        .filter(|p| cycle % p == 0)
+        .find(|&p| (p..lasso.end).all(|t| at(t) == at(t - p)))
+}
+
+fn phase_count(periods: &[Option<usize>], wish: usize) -> usize {
+    if wish > 0 {
+        return wish;
+    }
+    let count = |n: usize| periods.iter().flatten().filter(|&p| n % p == 0).count();
+    let most = (1..=MOST_PHASES).map(count).max().unwrap();
+    (1..=MOST_PHASES).find(|&n| count(n) == most).unwrap()
+}
+
+/// The clock of each register that has a used generator.
+fn clocks_of(
+    nodes: &[Row],
+    registers: &[usize],
+    lasso: &Lasso,
+    periods: &[Option<usize>],
+    phases: usize,
+) -> Vec<Option<Clock>> {
+    let size = registers.len();
+    let clock = |j: usize, p: usize| {
+        let word = (0..phases).fold(0, |word, k| word | lasso.states[(k % p) * size + j] << k);
+        Clock { label: nodes[registers[j]].b, period: p as u8, word, ones: word.count_ones() }
+    };
+    (0..size).map(|j| periods[j].filter(|p| phases % p == 0).map(|p| clock(j, p))).collect()
+}
+
+// ---- the unrolling ----
+
+/// The folded netlist's rows so far.
+struct Builder {
+    rows: Vec<Row>,
+}
+
+impl Builder {
+    fn push(&mut self, kind: u8, reset: u8, a: u16, b: u16, c: u16) -> u16 {
+        self.rows.push(Row { kind, reset, a, b, c });
+        2 * (self.rows.len() - 1) as u16
+    }
+
+    fn and(&mut self, x: u16, y: u16) -> u16 {
+        if x == 0 || y == 0 || x == y ^ 1 {
+            0
+        } else if x == 1 || x == y {
+            y
+        } else if y == 1 {
+            x
+        } else {
+            self.push(AND, 0, x.min(y), x.max(y), 0)
+        }
+    }
+
+    fn xor(&mut self, x: u16, y: u16) -> u16 {
+        let (p, q, inverted) = (x & !1, y & !1, (x ^ y) & 1);
+        if p == q {
+            inverted
+        } else if p == 0 {
+            q | inverted
+        } else if q == 0 {
+            p | inverted
+        } else {
+            self.push(XOR, 0, p.min(q), p.max(q), 0) | inverted
+        }
+    }
+
+    fn mux(&mut self, s: u16, b: u16, c: u16) -> u16 {
+        if s == 1 || b == c {
+            b
+        } else if s == 0 {
+            c
+        } else if s & 1 == 1 {
+            self.push(MUX, 0, s - 1, c, b)
+        } else {
+            self.push(MUX, 0, s, b, c)
+        }
+    }
+}
+
+fn image(images: &[u16], literal: u16) -> u16 {
+    images[usize::from(literal / 2)] ^ (literal & 1)
+}
+
+/// The images of the nodes in one phase, from those of the phase before.
+fn unroll_phase(
+    builder: &mut Builder,
+    nodes: &[Row],
+    clocks: &[Option<Clock>],
+    phase: usize,
+    before: &[u16],
+    now: &mut [u16],
+) {
+    let mut clock = clocks.iter();
+    for (i, row) in nodes.iter().enumerate() {
+        let of = |literal: u16| image(now, literal);
+        now[i] = match row.kind {
+            CONSTANT => 0,
+            INPUT => builder.push(INPUT, 0, row.a, phase as u16, 0),
+            REGISTER => match clock.next().unwrap() {
+                Some(clock) => u16::from(clock.word >> phase & 1),
+                None if phase == 0 => builder.push(REGISTER, row.reset, row.a, row.b, 0),
+                None => image(before, row.a),
+            },
+            AND => builder.and(of(row.a), of(row.b)),
+            XOR => builder.xor(of(row.a), of(row.b)),
+            _ => builder.mux(of(row.a), of(row.b), of(row.c)),
+        };
+    }
+}
+
+/// All phases; then the new registers' next values, and the outputs.
+fn unroll(nodes: &[Row], outputs: &[Row], clocks: &[Option<Clock>], phases: usize) -> Vec<Row> {
+    let mut builder = Builder { rows: Vec::with_capacity(phases * (nodes.len() + outputs.len())) };
+    builder.push(CONSTANT, 0, 0, 0, 0);
+    let mut images = vec![vec![0u16; nodes.len()]; phases];
+    for phase in 0..phases {
+        let (earlier, rest) = images.split_at_mut(phase);
+        let before = earlier.last().map_or(&[][..], |images| &images[..]);
+        unroll_phase(&mut builder, nodes, clocks, phase, before, &mut rest[0]);
+    }
+    let last = &images[phases - 1];
+    for row in builder.rows.iter_mut().filter(|row| row.kind == REGISTER) {
+        row.a = image(last, row.a);
+    }
+    for (phase, images) in images.iter().enumerate() {
+        for output in outputs {
+            builder.push(OUTPUT, 0, image(images, output.a), output.b, phase as u16);
+        }
+    }
+    builder.rows
+}
+
+// ---- cone of influence, compaction, the file ----
+
+/// How many of fields a, b, c are literals.
+fn literal_count(kind: u8) -> usize {
+    match kind {
+        REGISTER | OUTPUT => 1,
+        AND | XOR => 2,
+        MUX => 3,
+        _ => 0,
+    }
+}
+
+/// The rows that an output reaches, row 0 and the outputs.
+fn cone(rows: &[Row]) -> Vec<bool> {
+    let mut kept = vec![false; rows.len()];
+    kept[0] = true;
+    let mut left: Vec<usize> = places(rows, OUTPUT);
+    for &i in &left {
+        kept[i] = true;
+    }
+    while let Some(i) = left.pop() {
+        let row = rows[i];
+        for &literal in &[row.a, row.b, row.c][..literal_count(row.kind)] {
+            let node = usize::from(literal / 2);
+            if !kept[node] {
+                kept[node] = true;
+                left.push(node);
+            }
+        }
+    }
+    kept
+}
+
+/// The kept rows, in order and renumbered.
+fn compact(rows: &[Row]) -> Vec<Row> {
+    let kept = cone(rows);
+    let mut numbers = vec![0u16; rows.len()];
+    let mut count = 0;
+    for (number, &keep) in numbers.iter_mut().zip(&kept) {
+        *number = count;
+        count += u16::from(keep);
+    }
+    let renumber = |literal: u16| 2 * numbers[usize::from(literal / 2)] + (literal & 1);
+    let renumbered = |mut row: Row| {
+        let literals = literal_count(row.kind);
+        if literals > 0 {
+            row.a = renumber(row.a);
+        }
+        if literals > 1 {
+            row.b = renumber(row.b);
+        }
+        if literals > 2 {
+            row.c = renumber(row.c);
+        }
+        row
+    };
+    rows.iter().zip(&kept).filter(|(_, &keep)| keep).map(|(&row, _)| renumbered(row)).collect()
+}
+
+fn write_row(bytes: &mut [u8], row: Row) {
+    bytes[0] = row.kind;
+    bytes[1] = row.reset;
+    bytes[2..4].copy_from_slice(&row.a.to_le_bytes());
+    bytes[4..6].copy_from_slice(&row.b.to_le_bytes());
+    bytes[6..8].copy_from_slice(&row.c.to_le_bytes());
+}
+
+/// The file of the rows, and zeros after it.
+fn write_file(rows: &[Row], result: &mut [u8]) {
+    result.fill(0);
+    let blocks = rows.len().div_ceil(ROWS_A_BLOCK);
+    for (index, (block, rows)) in
+        result.chunks_exact_mut(BLOCK).zip(rows.chunks(ROWS_A_BLOCK)).enumerate()
+    {
+        block[0] = if index + 1 == blocks { 2 } else { 1 };
+        block[1] = index as u8;
+        block[2] = rows.len() as u8;
+        for (bytes, &row) in block[4..].chunks_exact_mut(8).zip(rows) {
+            write_row(bytes, row);
+        }
+        let check = u32::MAX - word_sum(block);
+        block[BLOCK - 4..].copy_from_slice(&check.to_le_bytes());
+    }
+}
+
+// ---- Fold ----
+
+/// Questions 11 to 15.
+fn fold_questions(
+    rows: &[Row],
+    counts: Counts,
+    wish: u32,
+    result: usize,
+    work: usize,
+    clocks: usize,
+) -> Result<(), Refusal> {
+    if rows.len() > 1008 {
+        return refuse(11, 0);
+    }
+    if counts.registers > 256 {
+        return refuse(12, 0);
+    }
+    let phase = |row: &Row| match row.kind {
+        INPUT => row.b,
+        OUTPUT => row.c,
+        _ => 0,
+    };
+    if let Some(index) = rows.iter().position(|row| phase(row) != 0) {
+        return refuse(13, index);
+    }
+    if wish > 8 {
+        return refuse(14, 0);
+    }
+    if result < MOST_BYTES || work < 49_152 || clocks < 256 {
+        return refuse(15, 0);
+    }
+    Ok(())
+}
+
+pub fn fold(
+    file: &[u8],
+    wish: u32,
+    result: &mut [u8],
+    work: &mut [u8],
+    list: &mut [Clock],
+) -> Result<Folded, Refusal> {
+    work.fill(0);
+    let counts = count(file)?;
+    let rows = decode_rows(file);
+    fold_questions(&rows, counts, wish, result.len(), work.len(), list.len())?;
+    let (nodes, outputs) = rows.split_at(counts.nodes as usize);
+    let registers = places(nodes, REGISTER);
+    let lasso = find_lasso(nodes, &registers)?;
+    let periods: Vec<_> =
+        (0..registers.len()).map(|j| period_of(&lasso, registers.len(), j)).collect();
+    let phases = phase_count(&periods, wish as usize);
+    let clocks = clocks_of(nodes, &registers, &lasso, &periods, phases);
+    let folded = compact(&unroll(nodes, outputs, &clocks, phases));
+    write_file(&folded, result);
+    for (entry, &clock) in list.iter_mut().zip(clocks.iter().flatten()) {
+        *entry = clock;
+    }
+    Ok(Folded {
+        stem: lasso.stem as u32,
+        cycle: (lasso.end - lasso.stem) as u32,
+        phases: phases as u32,
+        used: clocks.iter().flatten().count() as u32,
+        before: rows.len() as u32,
+        after: folded.len() as u32,
+    })
+}

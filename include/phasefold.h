@@ -1,0 +1,58 @@
+/* phasefold: checks, counts, folds and runs netlist files.
+ *
+ * A slice is a pointer and its length, and the pointer is not null, even if the length is 0. All
+ * memory is lent by the caller: nothing is allocated, and nothing is kept after the return. A part
+ * that is written, `result`, `work` or `clocks`, overlaps no other part of the same call.
+ *
+ * Every answer starts with a refusal: the number of the question whose answer was no, and its place
+ * (a block for numbers 2 to 5, a row for 6 to 9 and 13, else 0). Both are 0 on success; the answer's
+ * other fields are 0 on a refusal. A refusal changes no lent memory but `work`, which is all zero
+ * after every return.
+ */
+#ifndef PHASEFOLD_H
+#define PHASEFOLD_H
+
+#include <stddef.h>
+#include <stdint.h>
+
+#ifdef __cplusplus
+extern "C" {
+#endif
+
+typedef struct { uint32_t number, place; } pf_refusal;
+
+/* The nodes include the constant; `unknown` counts the registers that reset to X. */
+typedef struct { uint32_t number, place, nodes, inputs, registers, unknown, outputs; } pf_counts;
+
+/* Lasso, phase count, used generators, and the rows of the file and of the folded file. */
+typedef struct { uint32_t number, place, stem, cycle, phases, used, before, after; } pf_folded;
+
+/* A used generator: its register's label, its period, bit k of `word` its value in phase k, and how
+ * many bits of `word` are set. */
+typedef struct { uint16_t label; uint8_t period, word; uint32_t ones; } pf_clock;
+
+/* Is this a netlist file? Refusals 1 to 10. */
+pf_refusal pf_check(const uint8_t *file, size_t file_len);
+
+/* How many rows of each sort a file has. Refusals 1 to 10. */
+pf_counts pf_count(const uint8_t *file, size_t file_len);
+
+/* Folds a file into as many phases as `wish` says, 1 to 8, or into the best number, with 0.
+ * `result` then starts with the folded file and is zero after it; the first `used` entries of
+ * `clocks` are set, in row order, and the others are unchanged. At least 65536 bytes of `result`,
+ * 49152 of `work` and 256 entries of `clocks` are needed. Refusals 1 to 16. */
+pf_folded pf_fold(const uint8_t *file, size_t file_len, uint32_t wish, uint8_t *result, size_t result_len,
+                  uint8_t *work, size_t work_len, pf_clock *clocks, size_t clocks_len);
+
+/* Runs a file for `steps` steps, at most 4096. `choices` has a byte, 0 or 1, for each register that
+ * resets to X; `inputs` has one for each input, step after step; `result` gets one for each output,
+ * step after step, all in row order. Later bytes of `result` are unchanged. At least 16384 bytes of
+ * `work` are needed. Refusals 1 to 10 and 17 to 20. */
+pf_refusal pf_run(const uint8_t *file, size_t file_len, uint32_t steps, const uint8_t *choices, size_t choices_len,
+                  const uint8_t *inputs, size_t inputs_len, uint8_t *result, size_t result_len, uint8_t *work, size_t work_len);
+
+#ifdef __cplusplus
+}
+#endif
+
+#endif
