@@ -10,7 +10,7 @@ use lib.Dec.{eqb}
 use borrow.Author.Tests.{ne-eqb}
 use Rattle.memory.specs.Fields.{byteAt}
 use Rattle.netlist.specs.Limits.{mostRows}
-use Rattle.netlist.specs.Rows.{RowFields, encodeRow, decodeRow, rowFromFields, rowAt, constant, isOutput}
+use Rattle.netlist.specs.Rows.{RowFields, encodeRow, decodeRow, rowFromFields, rowAt, constant, kindOf, isOutput}
 use Rattle.netlist.specs.FileFormat.{blockCount, blockAt, rowOffset, readFields, rowCount, fieldsOf, netlistOf}
 use Rattle.netlist.proofs.FileLaws.{block-at, read-length, read-at}
 use Rattle.questions.specs.Questions.{noRefusal, lengthRight, namesEarlier, fileRefusal}
@@ -31,11 +31,11 @@ module _ (f : List ℕ) where
   unfolding netlistOf
   row-at i h = List·getD-map decodeRow (fieldsOf f) i (encodeRow constant) ∙ ap decodeRow (read-at f i h)
 
--- A row is an output exactly if its kind is 6.
-pub output-kind : (w : RowFields) → isOutput (decodeRow w) ≡ eqb (w .kind) 6
-output-kind w = go (w .kind)
+-- A row is of kind k, 1 to 6, exactly if its field says so.
+pub kind-field : (w : RowFields) (k : ℕ) → 0 < k → k ≤ 6 → eqb (kindOf (decodeRow w)) k ≡ eqb (w .kind) k
+kind-field w k some most = go (w .kind)
   where
-    go : (k : ℕ) → isOutput (rowFromFields k (w .reset) (w .a) (w .b) (w .c)) ≡ eqb k 6
+    go : (n : ℕ) → eqb (kindOf (rowFromFields n (w .reset) (w .a) (w .b) (w .c))) k ≡ eqb n k
     go zero = refl
     go (suc zero) = refl
     go (suc (suc zero)) = refl
@@ -43,7 +43,10 @@ output-kind w = go (w .kind)
     go (suc (suc (suc (suc zero)))) = refl
     go (suc (suc (suc (suc (suc zero))))) = refl
     go (suc (suc (suc (suc (suc (suc zero)))))) = refl
-    go (suc (suc (suc (suc (suc (suc (suc k))))))) = sym (ne-eqb (suc (suc (suc (suc (suc (suc (suc k))))))) 6 (λ e. omega arith))
+    go (suc (suc (suc (suc (suc (suc (suc n))))))) = ne-eqb 0 k (λ e. omega arith) ∙ sym (ne-eqb (suc (suc (suc (suc (suc (suc (suc n))))))) k (λ e. omega arith))
+
+pub output-kind : (w : RowFields) → isOutput (decodeRow w) ≡ eqb (w .kind) 6
+output-kind w = kind-field w 6 (omega arith) (omega arith)
 
 pub output-at : (f : List ℕ) (i : ℕ) → i < rowCount f → isOutput (rowAt (netlistOf f) i) ≡ eqb (byteAt f (rowOffset i)) 6
 output-at f i h = ap isOutput (row-at f i h) ∙ output-kind (readFields f i)

@@ -1,7 +1,7 @@
 -- Questions 6 to 9 of a row, from what its tests found; and the rows asked in turn.
 -- Assumes nothing.
-use Prim.Native.Nat.{ℕ, zero, suc, _+_, _<_, _≤_, _/_, _^_}
-use mathlib.Core.Path.{_≡_, refl, sym, ap, ap₂, _∙_, subst}
+use Prim.Native.Nat.{ℕ, zero, suc, _+_, _<_, _≤_, _/_}
+use mathlib.Core.Path.{_≡_, refl, sym, ap, _∙_, subst}
 use mathlib.Core.Logic.{_⊎_, inl, inr}
 use mathlib.Core.Bool.{Bool, true, false, cond, not, _&&_, _||_, false≢true}
 use mathlib.Core.List.{List, [], _∷_}
@@ -29,10 +29,10 @@ use Rattle.accept.specs.declared.Acceptance.the-variants.{Accepted, Refu
 use Rattle.accept.specs.declared.RowTests.{RowTests}
 use Rattle.accept.specs.Refusals.{refusalIn, acceptRefusal, refusalAt}
 use Rattle.accept.specs.RowChecks.{RowsOf, onlyNodes, TestsOf}
-use Rattle.accept.specs.Marks.{allSlots, markBytes, slotOf, isFree, SetIf, NameFits, MarksOf}
+use Rattle.accept.specs.Marks.{labels, allSlots, slotOf, markBytes, MarksOf}
 use Rattle.accept.proofs.RefusalLaws.{number-positive, items-stop, items-again, list-stop}
 use Rattle.accept.proofs.AcceptedRows.{fields-length, row-at, output-kind, output-at}
-use Rattle.accept.proofs.MarkLaws.{slot-small, marks-none, label-new, marks-more}
+use Rattle.accept.proofs.MarkLaws.{slot-small, marks-none}
 
 -- ---- question 9's nodes
 
@@ -124,13 +124,13 @@ module _ {f : List ℕ} {i : ℕ} {w : Fields} {only : Bool} {t : RowTests} (A :
       ∙ ap (λ (b : Bool). rowAnswer b g l (literalsRight namesEarlier (netlistOf f) i (decodeRow (fieldsIn w)))) (sym kind-is)
 
   -- The code's answer, and the marks that it leaves.
-  abbrev pub Answered : Refusal → List ℕ → Type 0
-  Answered q after = (q ≡ refusalAt (rowQuestions namesEarlier (fieldsOf f) i) i) × (rowQuestions namesEarlier (fieldsOf f) i ≡ 0 → MarksOf (netlistOf f) (i + 1) after)
+  abbrev pub Answered : Bool → Refusal → List ℕ → Type 0
+  Answered few q after = (q ≡ refusalAt (rowQuestions namesEarlier (fieldsOf f) i) i) × (rowQuestions namesEarlier (fieldsOf f) i ≡ 0 → MarksOf few (netlistOf f) (i + 1) after)
 
-  refused : (m : ℕ) {after : List ℕ} → rowQuestions namesEarlier (fieldsOf f) i ≡ suc m → Answered (record { number = suc m; place = i }) after
+  refused : (m : ℕ) {few : Bool} {after : List ℕ} → rowQuestions namesEarlier (fieldsOf f) i ≡ suc m → Answered few (record { number = suc m; place = i }) after
   refused m e = (sym (ap (λ (q : ℕ). refusalAt q i) e), λ z. absurd (omega (arith, e, z)))
 
-  pub no-kind : {after : List ℕ} → not (t .kind) ≡ true → Answered (record { number = 6; place = i }) after
+  pub no-kind : {few : Bool} {after : List ℕ} → not (t .kind) ≡ true → Answered few (record { number = 6; place = i }) after
   no-kind h = refused 5 (asked ∙ rw (not-true (t .kind) h))
 
   module _ (kind : not (t .kind) ≡ false) where
@@ -140,41 +140,40 @@ module _ {f : List ℕ} {i : ℕ} {w : Fields} {only : Bool} {t : RowTests} (A :
     fields-is : t .fields ≡ fieldsTest (fieldsIn w)
     fields-is = A .tests .fields kind-yes
 
-    pub no-field : {after : List ℕ} → not (t .fields) ≡ true → Answered (record { number = 7; place = i }) after
+    pub no-field : {few : Bool} {after : List ℕ} → not (t .fields) ≡ true → Answered few (record { number = 7; place = i }) after
     no-field h = refused 6 (asked ∙ rw (kind-yes, ← fields-is, not-true (t .fields) h))
 
     module _ (fields : not (t .fields) ≡ false) where
       fields-yes : fieldsTest (fieldsIn w) ≡ true
       fields-yes = sym fields-is ∙ not-false (t .fields) fields
 
-      fits : NameFits (decodeRow (fieldsIn w))
-      fits =
+      pub slot-fits : t .slot < allSlots
+      slot-fits =
           let k = and-true (leb (w .kind) 6 && cond (eqb (w .kind) 0) (eqb i 0) (not (eqb i 0))) _ (sym (A .tests .kind) ∙ kind-yes) in
           let six = leb-true (w .kind) 6 (and-true (leb (w .kind) 6) _ (k .0) .0) in
-          record {
-            label = subst (λ (r : Row). labelOf r < 2 ^ 16) here (file-labels f (A .bytes) i (omega (arith, read-length f, A .within)));
-            phase = fieldsRight-iff (w .kind) (w .reset) (w .a) (w .b) (w .c) six .0 fields-yes .phase-in;
-          }
+          let label : labelOf (decodeRow (fieldsIn w)) < labels = subst (λ (r : Row). labelOf r < labels) here (file-labels f (A .bytes) i (omega (arith, read-length f, A .within))) in
+          let phase = fieldsRight-iff (w .kind) (w .reset) (w .a) (w .b) (w .c) six .0 fields-yes .phase-in in
+          omega (arith, A .tests .slot kind-yes, slot-small (decodeRow (fieldsIn w)) label phase)
 
-      pub slot-fits : t .slot < allSlots
-      slot-fits = omega (arith, A .tests .slot kind-yes, slot-small (decodeRow (fieldsIn w)) fits)
+      -- The name and the slot are those of the row.
+      pub named-is : t .named ≡ hasName (rowAt (netlistOf f) i)
+      named-is = A .tests .named kind-yes ∙ ap hasName (sym here)
 
-      module _ {marks : List ℕ} (M : MarksOf (netlistOf f) i marks) {new : Bool} (found : new ≡ not (t .named) || isFree marks (t .slot)) where
-        label-is : new ≡ labelIsNew (netlistOf f) i
-        label-is = found ∙ ap₂ (λ (b : Bool) (s : ℕ). not b || isFree marks s) (A .tests .named kind-yes) (A .tests .slot kind-yes) ∙ label-new (netlistOf f) i marks M (decodeRow (fieldsIn w)) here fits
+      pub slot-is : t .slot ≡ slotOf (rowAt (netlistOf f) i)
+      slot-is = A .tests .slot kind-yes ∙ ap slotOf (sym here)
 
-        pub no-label : {after : List ℕ} → not new ≡ true → Answered (record { number = 8; place = i }) after
+      module _ {new : Bool} (label-is : new ≡ labelIsNew (netlistOf f) i) {few : Bool} {after : List ℕ} where
+        pub no-label : not new ≡ true → Answered few (record { number = 8; place = i }) after
         no-label h = refused 7 (asked ∙ rw (kind-yes, fields-yes, ← label-is, not-true new h))
 
-        module _ (label : not new ≡ false) {after : List ℕ} where
-          pub no-literal : not (t .literals) ≡ true → Answered (record { number = 9; place = i }) after
+        module _ (label : not new ≡ false) where
+          pub no-literal : not (t .literals) ≡ true → Answered few (record { number = 9; place = i }) after
           no-literal h = refused 8 (asked ∙ rw (kind-yes, fields-yes, ← label-is, not-false new label, ← A .tests .literals kind-yes, not-true (t .literals) h))
 
-          pub row-right : not (t .literals) ≡ false → SetIf (t .named) (t .slot) marks after → Answered noRefusal after
-          row-right h S =
+          pub row-right : not (t .literals) ≡ false → MarksOf few (netlistOf f) (i + 1) after → Answered few noRefusal after
+          row-right h M =
               let e : rowQuestions namesEarlier (fieldsOf f) i ≡ 0 = asked ∙ rw (kind-yes, fields-yes, ← label-is, not-false new label, ← A .tests .literals kind-yes, not-false (t .literals) h) in
-              let T : SetIf (hasName (decodeRow (fieldsIn w))) (slotOf (decodeRow (fieldsIn w))) marks after = rw (A .tests .named kind-yes, A .tests .slot kind-yes) at S in
-              (sym (ap (λ (q : ℕ). refusalAt q i) e), λ _. marks-more (netlistOf f) i marks M (decodeRow (fieldsIn w)) here fits after T)
+              (sym (ap (λ (q : ℕ). refusalAt q i) e), λ _. M)
 
 -- ---- question 10
 
@@ -193,13 +192,13 @@ some-output rows e =
 -- ---- rows asked in turn
 
 -- The first n rows are right, and what is known of them.
-pub record PassedRows (f : List ℕ) (only : Bool) (marks : List ℕ) (n : ℕ) : Type 0 where
+pub record PassedRows (f : List ℕ) (only few : Bool) (marks : List ℕ) (n : ℕ) : Type 0 where
   pub right : (j : ℕ) → j < n → rowQuestions namesEarlier (fieldsOf f) j ≡ 0
   pub nodes : only ≡ onlyNodes (netlistOf f) n
-  pub names : MarksOf (netlistOf f) n marks
+  pub names : MarksOf few (netlistOf f) n marks
 
-pub passed-none : (f marks : List ℕ) → length marks ≡ markBytes → ((i : ℕ) → byteAt marks i ≡ 0) → PassedRows f true marks 0
-passed-none f marks size z = record { right = λ j l. absurd (omega arith); nodes = refl; names = marks-none (netlistOf f) marks size z }
+pub passed-none : (f : List ℕ) (few : Bool) (marks : List ℕ) → length marks ≡ markBytes few → PassedRows f true few marks 0
+passed-none f few marks size = record { right = λ j l. absurd (omega arith); nodes = refl; names = marks-none few (netlistOf f) marks size }
 
 -- Questions 6 to 9 of all rows, and question 10.
 abbrev items : List ℕ → Refusal
@@ -212,7 +211,7 @@ rows-asked : (f : List ℕ) → rowsRefusal namesEarlier (fieldsOf f) ≡ firstR
 unfolding rowsRefusal netlistOf
 rows-asked f = ap (λ (n : ℕ). firstRefusal (itemQuestions n (rowQuestions namesEarlier (fieldsOf f)) ∷ tenth f)) (fields-length f)
 
-module _ {f : List ℕ} {rows : ℕ} (R : RowsOf f rows) {n : ℕ} {only : Bool} {marks : List ℕ} (P : PassedRows f only marks n) where
+module _ {f : List ℕ} {rows : ℕ} (R : RowsOf f rows) {n : ℕ} {only few : Bool} {marks : List ℕ} (P : PassedRows f only few marks n) where
   module _ (more : n < rows) (a : Acceptance) (asked : acceptRefusal a ≡ refusalAt (rowQuestions namesEarlier (fieldsOf f) n) n) where
     within : n < rowCount f
     within = omega (arith, R .counted)
@@ -223,7 +222,7 @@ module _ {f : List ℕ} {rows : ℕ} (R : RowsOf f rows) {n : ℕ} {only : Bool}
         let p : 0 < items f .number = omega (arith, number-positive x, ap (λ (y : Refusal). y .number) q) in
         q ∙ sym (rows-asked f ∙ list-stop (items f) (tenth f) p)
 
-    pub rows-again : a ≡ Accepted → {after : List ℕ} → (rowQuestions namesEarlier (fieldsOf f) n ≡ 0 → MarksOf (netlistOf f) (n + 1) after) → (w : Fields) → fieldsIn w ≡ readFields f n → {b : Bool} → b ≡ only && not (eqb (w .kind) 6) → PassedRows f b after (n + 1)
+    pub rows-again : a ≡ Accepted → {after : List ℕ} → (rowQuestions namesEarlier (fieldsOf f) n ≡ 0 → MarksOf few (netlistOf f) (n + 1) after) → (w : Fields) → fieldsIn w ≡ readFields f n → {b : Bool} → b ≡ only && not (eqb (w .kind) 6) → PassedRows f b few after (n + 1)
     rows-again e m w read eb =
         let right = items-again (rowCount f) (rowQuestions namesEarlier (fieldsOf f)) n within (P .right) a asked e in
         let o : isOutput (rowAt (netlistOf f) n) ≡ eqb (w .kind) 6 = ap isOutput (row-at f n within ∙ ap decodeRow (sym read)) ∙ output-kind (fieldsIn w) in

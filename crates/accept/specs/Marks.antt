@@ -1,22 +1,19 @@
--- Question 8's marks: a bit for each name that a row can have. Inputs and outputs have one for each label and phase, registers one for each label.
+-- Question 8's marks: bits that say which names are taken. Inputs and outputs have a slot for each label and phase, registers one for each label; the marks have a bit for each slot, or few bits, which slots share.
 -- Assumes nothing.
 use Prim.Native.Nat.{ℕ, _+_, _*_, _<_, _/_, _%_, _^_}
 use mathlib.Core.Path.{_≡_}
-use mathlib.Core.Bool.{Bool, true, not, _&&_}
+use mathlib.Core.Bool.{Bool, true, cond}
 use mathlib.Core.List.{List}
 use lib.ListN.{length}
-use lib.Dec.{eqb}
-use Rattle.memory.specs.Lists.{allBelow}
 use Rattle.memory.specs.Fields.{byteAt}
 use Rattle.netlist.specs.Limits.{mostPhases}
-use Rattle.netlist.specs.Rows.{Row, constant, input, register, andGate, xorGate, muxGate, output, rowAt, labelOf, phaseOf, hasName}
-use Rattle.questions.specs.Questions.{sameName}
+use Rattle.netlist.specs.Rows.{Row, rowAt, labelOf, phaseOf, hasName, isInput, isRegister, isOutput}
 
 -- Labels are 0 to 65,535.
 abbrev pub labels : ℕ
 labels = 2 ^ 16
 
--- Where the registers' bits start, then the outputs', and how many bits and bytes there are.
+-- Where the registers' slots start, then the outputs', and how many slots there are.
 abbrev pub registerSlots : ℕ
 registerSlots = mostPhases * labels
 
@@ -26,34 +23,35 @@ outputSlots = registerSlots + labels
 abbrev pub allSlots : ℕ
 allSlots = outputSlots + mostPhases * labels
 
-abbrev pub markBytes : ℕ
-markBytes = allSlots / 8
-
--- The bit of a row's name; 0 where it has none.
+-- The slot of a row's name; 0 where it has none.
 abbrev pub slotOf : Row → ℕ
-slotOf constant = 0
-slotOf (input l p) = mostPhases * l + p
-slotOf (register r n l) = registerSlots + l
-slotOf (andGate a b) = 0
-slotOf (xorGate a b) = 0
-slotOf (muxGate a b c) = 0
-slotOf (output a l p) = outputSlots + mostPhases * l + p
+slotOf r =
+    let l = labelOf r in
+    let p = phaseOf r in
+    cond (isInput r) (mostPhases * l + p) (cond (isRegister r) (registerSlots + l) (cond (isOutput r) (outputSlots + mostPhases * l + p) 0))
 
--- The bit is not set.
-abbrev pub isFree : List ℕ → ℕ → Bool
-isFree marks s = eqb (byteAt marks (s / 8) / 2 ^ (s % 8) % 2) 0
+-- How many bits there are if they are few.
+abbrev pub fewBits : ℕ
+fewBits = 2 ^ 13
 
--- The bit is set, if `named` says so, and the others are as they were.
-pub record SetIf (named : Bool) (slot : ℕ) (before after : List ℕ) : Type 0 where
+-- How many bytes of marks there are.
+abbrev pub markBytes : Bool → ℕ
+markBytes few = cond few fewBits allSlots / 8
+
+-- Which bit is a slot's. Few bits are shared so that equal labels of inputs, registers and outputs lie apart.
+abbrev pub bitOf : Bool → ℕ → ℕ
+bitOf few slot = cond few ((slot + slot / labels * 352) % fewBits) slot
+
+abbrev pub bitAt : List ℕ → ℕ → ℕ
+bitAt marks s = byteAt marks (s / 8) / 2 ^ (s % 8) % 2
+
+-- Bit s is set, and no other is cleared.
+pub record Marked (s : ℕ) (before after : List ℕ) : Type 0 where
   pub size : length after ≡ length before
-  pub free : (s : ℕ) → isFree after s ≡ isFree before s && not (named && eqb s slot)
+  pub here : bitAt after s ≡ 1
+  pub kept : (t : ℕ) → bitAt before t ≡ 1 → bitAt after t ≡ 1
 
--- The row's label and phase are in range.
-pub record NameFits (r : Row) : Type 0 where
-  pub label : labelOf r < labels
-  pub phase : phaseOf r < mostPhases
-
--- The marks of the first n rows: a name's bit is free exactly if none of them has that name.
-pub record MarksOf (rows : List Row) (n : ℕ) (marks : List ℕ) : Type 0 where
-  pub size : length marks ≡ markBytes
-  pub free : (r : Row) → hasName r ≡ true → NameFits r → isFree marks (slotOf r) ≡ allBelow n (λ j. not (sameName r (rowAt rows j)))
+-- Each name of the first n rows has its bit set; so a name whose bit is not set is new.
+pub record MarksOf (few : Bool) (rows : List Row) (n : ℕ) (marks : List ℕ) : Type 0 where
+  pub size : length marks ≡ markBytes few
+  pub taken : (j : ℕ) → j < n → hasName (rowAt rows j) ≡ true → bitAt marks (bitOf few (slotOf (rowAt rows j))) ≡ 1

@@ -1,14 +1,16 @@
 // Check: questions 1 to 10 of a whole file, in the paper's order.
 ghost use mathlib.Core.Path.{_≡_};
-ghost use mathlib.Core.Bool.{true, not, _||_};
-ghost use Prim.Native.Nat.{ℕ, _+_, _*_, _<_, _≤_};
+ghost use Prim.Native.Nat.{_+_, _*_, _<_, _≤_};
 ghost use lib.ListN.{length};
-ghost use Rattle.memory.specs.Fields.{byteAt};
+ghost use lib.Dec.{eqb};
 ghost use Rattle.netlist.specs.Limits.{mostBlocks, mostRows};
-ghost use Rattle.netlist.specs.FileFormat.{readFields, fieldsOf, netlistOf};
+ghost use Rattle.netlist.specs.Rows.{decodeRow, rowAt, hasName};
+ghost use Rattle.netlist.specs.FileFormat.{readFields, rowCount, fieldsOf, netlistOf};
 ghost use Rattle.questions.specs.Questions.{
   noRefusal,
   lengthRight,
+  sameName,
+  labelIsNew,
   namesNode,
   namesEarlier,
   rowQuestions,
@@ -19,7 +21,7 @@ ghost use Rattle.blockfile.specs.RowCode.{fieldsIn, Small};
 ghost use Rattle.blockfile.specs.BlockCode.{blockNumber};
 ghost use Rattle.accept.specs.Refusals.{acceptRefusal, refusalAt, blocksRefusal};
 ghost use Rattle.accept.specs.RowChecks.{BlocksRight, RowsOf, onlyNodes, TestsOf};
-ghost use Rattle.accept.specs.Marks.{allSlots, markBytes, isFree, SetIf, MarksOf};
+ghost use Rattle.accept.specs.Marks.{allSlots, slotOf, markBytes, bitOf, bitAt, Marked, MarksOf};
 use blockfile::Fields;
 use blockfile::blocks::BlockAnswer;
 use blockfile::blocks::both;
@@ -43,7 +45,7 @@ pub enum Acceptance {
     Refused(FileRefusal),
 }
 
-// What the tests of a row found, and its name's bit among the marks.
+// What the tests of a row found, and its name's slot.
 struct RowTests {
     kind: bool,
     fields: bool,
@@ -58,12 +60,20 @@ const PHASES: usize = 8;
 
 const LABELS: usize = 65536;
 
-// The marks: a bit for each label and phase of an input, each label of a register, each label and phase of an output.
+// A name's slot: one for each label and phase of an input, each label of a register, each label and phase of an output.
 const REGISTER_SLOTS: usize = PHASES * LABELS;
 
 const OUTPUT_SLOTS: usize = REGISTER_SLOTS + LABELS;
 
+// The marks say which names are taken: a bit for each slot.
 const MARK_BYTES: usize = (OUTPUT_SLOTS + PHASES * LABELS) / 8;
+
+// The marks of a file of few rows, one block: few bits, which are cleared sooner.
+const FEW_ROWS: usize = 63;
+
+const FEW_BITS: usize = 8192;
+
+const FEW_MARK_BYTES: usize = FEW_BITS / 8;
 
 // Question 1.
 fn length_right(file: &[u8]) -> bool
@@ -202,26 +212,84 @@ fn test_row(file: &[u8], rows: usize, row: usize, nodes: bool, fields: Fields) -
     }
 }
 
-// Whether the bit is free; it is set afterwards.
-fn mark_new(marks: &mut [u8; MARK_BYTES], slot: usize) -> bool
-    requires { ⌜ (length (now marks) ≡ markBytes) × (slot < allSlots) ⌝ }
-    ensures { λ r. ⌜ (r ≡ isFree (now (marks .entry)) slot) × SetIf true slot (now (marks .entry)) (now (marks .exit)) ⌝ }
+// The bit of a name's slot; if bits are few, slots share them.
+fn bit_of(few: bool, slot: usize) -> usize
+    requires { ⌜ slot < allSlots ⌝ }
+    ensures { λ r. ⌜ r ≡ bitOf few slot ⌝ }
 {
-    let at = slot / 8;
-    let bit = slot % 8;
-    let byte = marks[at];
-    let mark = 1u8 << bit;
-    marks[at] = byte | mark;
-    (byte >> bit) % 2 == 0
+    if few {
+        let apart = slot / LABELS * 352;
+        let moved = slot + apart;
+        moved % FEW_BITS
+    } else {
+        slot
+    }
 }
 
-// Question 8: a row that has a name has one whose bit is free; the bit is set afterwards.
-fn label_is_new(marks: &mut [u8; MARK_BYTES], named: bool, slot: usize) -> bool
-    requires { ⌜ (length (now marks) ≡ markBytes) × (slot < allSlots) ⌝ }
-    ensures { λ r. ⌜ (r ≡ not named || isFree (now (marks .entry)) slot) × SetIf named slot (now (marks .entry)) (now (marks .exit)) ⌝ }
+// Whether the bit is free; it is set afterwards.
+fn mark_new(marks: &mut [u8], bit: usize) -> bool
+    requires { ⌜ bit < 8 * length (now marks) ⌝ }
+    ensures { λ r. ⌜ (r ≡ eqb (bitAt (now (marks .entry)) bit) 0) × Marked bit (now (marks .entry)) (now (marks .exit)) ⌝ }
+{
+    let at = bit / 8;
+    let shift = bit % 8;
+    let byte = marks[at];
+    let mark = 1u8 << shift;
+    marks[at] = byte | mark;
+    (byte >> shift) % 2 == 0
+}
+
+// Whether row x has a name and row y has the same one.
+fn same_name(x: Fields, y: Fields) -> bool
+    ensures { λ r. ⌜ r ≡ sameName (decodeRow (fieldsIn x)) (decodeRow (fieldsIn y)) ⌝ }
+{
+    let kind = x.kind;
+    match kind {
+        1 => both(both(y.kind == 1, y.a == x.a), y.b == x.b),
+        2 => both(y.kind == 2, y.b == x.b),
+        6 => both(both(y.kind == 6, y.b == x.b), y.c == x.c),
+        _ => false,
+    }
+}
+
+// Question 8 by comparison with each earlier row.
+fn name_is_new(file: &[u8], row: usize) -> bool
+    requires { ⌜ RowsOf (now file) (rowCount (now file)) × (row < rowCount (now file)) ⌝ }
+    ensures { λ r. ⌜ r ≡ labelIsNew (netlistOf (now (file .entry))) row ⌝ }
+{
+    let here = blockfile::read_row(file, row);
+    let mut earlier = 0;
+    'each: while earlier < row {
+        let fields = blockfile::read_row(file, earlier);
+        if same_name(here, fields) {
+            return false;
+        }
+        earlier += 1;
+    }
+    true
+}
+
+// Question 8: a name whose bit is free is new; one whose bit is taken is compared with the earlier rows. Unless bits are few, different names have different bits, so only a repeated name is compared, and Check ends with it.
+fn label_is_new(
+    file: &[u8],
+    row: usize,
+    named: bool,
+    slot: usize,
+    few: bool,
+    marks: &mut [u8],
+) -> bool
+    requires { ⌜ RowsOf (now file) (rowCount (now file)) × (row < rowCount (now file)) ⌝ }
+    requires { ⌜ (named ≡ hasName (rowAt (netlistOf (now file)) row)) × ((slot ≡ slotOf (rowAt (netlistOf (now file)) row)) × (slot < allSlots)) ⌝ }
+    requires { ⌜ MarksOf few (netlistOf (now file)) row (now marks) ⌝ }
+    ensures { λ r. ⌜ (r ≡ labelIsNew (netlistOf (now (file .entry))) row) × MarksOf few (netlistOf (now (file .entry))) (row + 1) (now (marks .exit)) ⌝ }
 {
     if named {
-        mark_new(&mut *marks, slot)
+        let bit = bit_of(few, slot);
+        if mark_new(&mut *marks, bit) {
+            true
+        } else {
+            name_is_new(file, row)
+        }
     } else {
         true
     }
@@ -234,12 +302,13 @@ fn check_row(
     row: usize,
     nodes: bool,
     fields: Fields,
-    marks: &mut [u8; MARK_BYTES],
+    few: bool,
+    marks: &mut [u8],
 ) -> Acceptance
     requires { ⌜ RowsOf (now file) rows × ((row < rows) × ((fieldsIn fields ≡ readFields (now file) row) × Small fields)) ⌝ }
-    requires { ⌜ (nodes ≡ onlyNodes (netlistOf (now file)) row) × MarksOf (netlistOf (now file)) row (now marks) ⌝ }
+    requires { ⌜ (nodes ≡ onlyNodes (netlistOf (now file)) row) × MarksOf few (netlistOf (now file)) row (now marks) ⌝ }
     ensures { λ r. ⌜ acceptRefusal r ≡ refusalAt (rowQuestions namesEarlier (fieldsOf (now (file .entry))) row) row ⌝ }
-    ensures { λ r. ⌜ (rowQuestions namesEarlier (fieldsOf (now (file .entry))) row ≡ 0 → MarksOf (netlistOf (now (file .entry))) (row + 1) (now (marks .exit))) ⌝ }
+    ensures { λ r. ⌜ (rowQuestions namesEarlier (fieldsOf (now (file .entry))) row ≡ 0 → MarksOf few (netlistOf (now (file .entry))) (row + 1) (now (marks .exit))) ⌝ }
 {
     let tests = test_row(file, rows, row, nodes, fields);
     let place = row as u32;
@@ -251,7 +320,7 @@ fn check_row(
     }
     let named = tests.named;
     let slot = tests.slot;
-    if !label_is_new(&mut *marks, named, slot) {
+    if !label_is_new(file, row, named, slot, few, &mut *marks) {
         return Acceptance::Refused(FileRefusal::Label { row: place });
     }
     if !tests.literals {
@@ -260,16 +329,16 @@ fn check_row(
     Acceptance::Accepted
 }
 
-// Questions 6 to 9 row by row, then 10, with no bit set at first.
-fn check_each_row(file: &[u8], rows: usize, marks: &mut [u8; MARK_BYTES]) -> Acceptance
-    requires { ⌜ RowsOf (now file) rows × ((length (now marks) ≡ markBytes) × ((i : ℕ) → byteAt (now marks) i ≡ 0)) ⌝ }
+// Questions 6 to 9 row by row, then 10.
+fn check_each_row(file: &[u8], rows: usize, few: bool, marks: &mut [u8]) -> Acceptance
+    requires { ⌜ RowsOf (now file) rows × (length (now marks) ≡ markBytes few) ⌝ }
     ensures { λ r. ⌜ acceptRefusal r ≡ rowsRefusal namesEarlier (fieldsOf (now (file .entry))) ⌝ }
 {
     let mut nodes = true;
     let mut row = 0;
     'each: while row < rows {
         let fields = blockfile::read_row(file, row);
-        match check_row(file, rows, row, nodes, fields, &mut *marks) {
+        match check_row(file, rows, row, nodes, fields, few, &mut *marks) {
             Acceptance::Accepted => {}
             Acceptance::Refused(refusal) => return Acceptance::Refused(refusal),
         }
@@ -283,12 +352,34 @@ fn check_each_row(file: &[u8], rows: usize, marks: &mut [u8; MARK_BYTES]) -> Acc
     }
 }
 
-fn check_rows(file: &[u8], rows: usize) -> Acceptance
+// With few bits.
+fn check_few_rows(file: &[u8], rows: usize) -> Acceptance
+    requires { ⌜ RowsOf (now file) rows ⌝ }
+    ensures { λ r. ⌜ acceptRefusal r ≡ rowsRefusal namesEarlier (fieldsOf (now (file .entry))) ⌝ }
+{
+    let mut marks = [0u8; FEW_MARK_BYTES];
+    check_each_row(file, rows, true, &mut marks)
+}
+
+// With a bit for each slot.
+fn check_many_rows(file: &[u8], rows: usize) -> Acceptance
     requires { ⌜ RowsOf (now file) rows ⌝ }
     ensures { λ r. ⌜ acceptRefusal r ≡ rowsRefusal namesEarlier (fieldsOf (now (file .entry))) ⌝ }
 {
     let mut marks = [0u8; MARK_BYTES];
-    check_each_row(file, rows, &mut marks)
+    check_each_row(file, rows, false, &mut marks)
+}
+
+// Questions 6 to 10 of all rows.
+fn check_rows(file: &[u8], rows: usize) -> Acceptance
+    requires { ⌜ RowsOf (now file) rows ⌝ }
+    ensures { λ r. ⌜ acceptRefusal r ≡ rowsRefusal namesEarlier (fieldsOf (now (file .entry))) ⌝ }
+{
+    if rows <= FEW_ROWS {
+        check_few_rows(file, rows)
+    } else {
+        check_many_rows(file, rows)
+    }
 }
 
 // How many rows a file has whose blocks are right.

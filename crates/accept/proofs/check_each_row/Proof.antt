@@ -7,19 +7,19 @@ use Rattle.accept.proofs.check_each_row.Statement.{statement}
 use Rattle.accept.proofs.check_each_row.Tie as tie
 
 abbrev Inv-each : tie.InvT-each
-Inv-each file rows marks₀ nodes₀ row₀ marks nodes row = (row ≤ rows) × PassedRows file nodes marks row
+Inv-each file rows few marks₀ nodes₀ row₀ marks nodes row = (row ≤ rows) × PassedRows file nodes few marks row
 
 abbrev μ-each : tie.MeasureT-each
-μ-each file rows marks₀ nodes₀ row₀ marks nodes row = rows - row
+μ-each file rows few marks₀ nodes₀ row₀ marks nodes row = rows - row
 
 each-holds : tie.Need-each-holds Inv-each μ-each
-each-holds c = (search needs, passed-none (c .before .args .file .now) (c .before .args .marks .now) (c .before .pre .1 .0) (c .before .pre .1 .1))
+each-holds c = (search needs, passed-none (c .before .before .args .file .now) (c .before .before .args .few) (c .before .before .args .marks .now) (c .before .before .pre .1))
 
 read-row-requires : tie.Need-read-row-requires Inv-each μ-each
 read-row-requires c κs = search needs
 
 check-row-requires : tie.Need-check-row-requires Inv-each μ-each
-check-row-requires c κs = let P = c .before .before .before .each .inv .1 in ((c .before .before .before .before .before .pre .0, (search needs, c .before .read-row .ensures)), (P .nodes, P .names))
+check-row-requires c κs = let P = c .before .before .before .each .inv .1 in ((c .before .before .before .before .before .before .pre .0, (search needs, c .before .read-row .ensures)), (P .nodes, P .names))
 
 enum-told : tie.Need-enum-told Inv-each μ-each
 enum-told c = search needs
@@ -27,8 +27,11 @@ enum-told c = search needs
 enum-known-refusal : tie.Need-enum-known-refusal Inv-each μ-each
 enum-known-refusal c = search needs
 
+same-length : tie.Need-same-length Inv-each μ-each
+same-length c = search needs
+
 returns : tie.Need-returns Inv-each μ-each
-returns c = rows-stop (c .before .before .before .before .before .before .before .before .before .pre .0) (c .before .before .before .before .before .before .before .each .inv .1) (c .before .before .before .before .before .before .each-test .taken) (c .before .before .before .check-row .result) (c .before .before .before .check-row .ensures .0) (c .before .refusal .given .0 .0) (c .before .refusal .given .1)
+returns c = rows-stop (c .before .before .before .before .before .before .before .before .before .before .before .before .pre .0) (c .before .before .before .before .before .before .before .before .before .each .inv .1) (c .before .before .before .before .before .before .before .before .each-test .taken) (c .before .before .before .before .before .check-row .result) (c .before .before .before .before .before .check-row .ensures .0) (c .before .refusal .given .0 .0) (c .before .refusal .given .1)
 
 both-requires : tie.Need-both-requires Inv-each μ-each
 both-requires c κs = search needs
@@ -40,13 +43,19 @@ each-less : tie.Need-each-less Inv-each μ-each
 each-less c = search needs
 
 each-again : tie.Need-each-again Inv-each μ-each
-each-again c = (search needs, rows-again (c .before .before .before .before .before .before .before .before .before .before .pre .0) (c .before .before .before .before .before .before .before .before .each .inv .1) (c .before .before .before .before .before .before .before .each-test .taken) (c .before .before .before .before .check-row .result) (c .before .before .before .before .check-row .ensures .0) (c .before .before .enum-told .given .1) (c .before .before .before .before .check-row .ensures .1) (c .before .before .before .before .before .before .read-row .result) (c .before .before .before .before .before .before .read-row .ensures .0) (c .both .ensures))
+each-again c = (search needs, rows-again (c .before .before .before .before .before .before .before .before .before .before .before .before .before .pre .0) (c .before .before .before .before .before .before .before .before .before .before .each .inv .1) (c .before .before .before .before .before .before .before .before .before .each-test .taken) (c .before .before .before .before .before .before .check-row .result) (c .before .before .before .before .before .before .check-row .ensures .0) (c .before .before .enum-told .given .1) (c .before .before .before .before .before .before .check-row .ensures .1) (c .before .before .before .before .before .before .before .before .read-row .result) (c .before .before .before .before .before .before .before .before .read-row .ensures .0) (c .both .ensures))
+
+same-length-2 : tie.Need-same-length-2 Inv-each μ-each
+same-length-2 c = search needs
 
 returns-2 : tie.Need-returns-2 Inv-each μ-each
-returns-2 c = rows-no-output (c .before .before .before .before .pre .0) (c .before .before .each .inv .1) (c .before .before .each .inv .0) (c .before .each-test .left) (c .if1 .taken)
+returns-2 c = rows-no-output (c .before .before .before .before .before .pre .0) (c .before .before .each .inv .1) (c .before .before .each .inv .0) (c .before .each-test .left) (c .if1 .taken)
+
+same-length-3 : tie.Need-same-length-3 Inv-each μ-each
+same-length-3 c = search needs
 
 returns-3 : tie.Need-returns-3 Inv-each μ-each
-returns-3 c = rows-right (c .before .before .before .before .pre .0) (c .before .before .each .inv .1) (c .before .before .each .inv .0) (c .before .each-test .left) (c .if1 .left)
+returns-3 c = rows-right (c .before .before .before .before .before .pre .0) (c .before .before .each .inv .1) (c .before .before .each .inv .0) (c .before .each-test .left) (c .if1 .left)
 
 pub check-each-row-spec : {M : Type 1} → statement M
 check-each-row-spec =
@@ -59,10 +68,13 @@ check-each-row-spec =
     check-row-requires
     enum-told
     enum-known-refusal
+    same-length
     returns
     both-requires
     add-row
     each-less
     each-again
+    same-length-2
     returns-2
+    same-length-3
     returns-3)
