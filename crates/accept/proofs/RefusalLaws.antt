@@ -14,7 +14,7 @@ use Rattle.memory.specs.Lists.{firstFrom}
 use Rattle.memory.proofs.ListLaws.{first-is, first-least}
 use Rattle.netlist.specs.FileFormat.{blockCount, fieldsOf}
 use Rattle.questions.specs.Questions.{Refusal, noRefusal, firstRefusal, question, itemQuestions, lengthRight, blockQuestions, namesEarlier, rowsRefusal, fileRefusalWith, fileRefusal}
-use Rattle.questions.proofs.QuestionLaws.{list-next, number-none, question-of, items-yes}
+use Rattle.questions.proofs.QuestionLaws.{list-next, list-stop, number-none, question-of, items-yes}
 use Rattle.blockfile.specs.declared.blocks.BlockAnswer.{BlockAnswer}
 use Rattle.blockfile.specs.BlockCode.{blockNumber}
 use Rattle.accept.specs.declared.FileRefusal.{FileRefusal}
@@ -89,15 +89,6 @@ module _ (f : List ℕ) (blocks : ℕ) (size : length f ≡ 512 * blocks) where
     pub blocks-again : a ≡ Accepted → (B : ℕ) → B < n + 1 → blockAsked f B ≡ 0
     blocks-again = items-again (blockCount f) (blockAsked f) n (omega arith) before a block-found
 
--- ---- a list of questions
-
-pub list-stop : (q : Refusal) (qs : List Refusal) → 0 < q .number → firstRefusal (q ∷ qs) ≡ q
-list-stop q qs h = go (q .number) refl
-  where
-    go : (n : ℕ) → q .number ≡ n → (elim n as (λ _. Refusal) [ zero ↦ firstRefusal qs | suc m ↦ q ]) ≡ q
-    go zero e = absurd (omega arith)
-    go (suc m) e = refl
-
 -- ---- the parts of Check, one after the other
 
 module _ (f : List ℕ) where
@@ -127,3 +118,12 @@ module _ (f : List ℕ) where
         last : (b : Acceptance) → firstRefusal (acceptRefusal b ∷ []) ≡ acceptRefusal b
         last Accepted = refl
         last (Refused x) = list-stop (refusalIn x) [] (number-positive x)
+
+-- ---- what Check's answer says of the file
+
+module _ (file : List ℕ) (a : Acceptance) (checked : acceptRefusal a ≡ fileRefusal file) where
+  pub accepted-none : a ≡ Accepted → fileRefusal file ≡ noRefusal
+  accepted-none e = sym checked ∙ ap acceptRefusal e
+
+  pub refused-is : (x : FileRefusal) → a ≡ Refused x → refusalIn x ≡ fileRefusal file
+  refused-is x e = sym (ap acceptRefusal e) ∙ checked

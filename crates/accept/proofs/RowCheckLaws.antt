@@ -18,7 +18,7 @@ use Rattle.netlist.specs.Rows.{Row, RowFields, constant, rowFromFields, decodeR
 use Rattle.netlist.specs.FileFormat.{rowOffset, readFields, rowCount, fieldsOf, fieldsAt, netlistOf}
 use Rattle.netlist.proofs.FileLaws.{read-length, read-at, file-labels}
 use Rattle.questions.specs.Questions.{Refusal, noRefusal, firstRefusal, question, itemQuestions, kindRight, fieldsRight, labelIsNew, namesNode, namesEarlier, literalsRight, rowQuestions, rowsRefusal}
-use Rattle.questions.proofs.QuestionLaws.{list-next, number-none, items-yes}
+use Rattle.questions.proofs.QuestionLaws.{list-next, number-none, items-yes, list-stop}
 use Rattle.questions.proofs.PlainWords.{fieldsRight-iff}
 use Rattle.blockfile.specs.declared.Fields.{Fields}
 use Rattle.blockfile.specs.RowCode.{fieldsIn}
@@ -30,7 +30,7 @@ use Rattle.accept.specs.declared.RowTests.{RowTests}
 use Rattle.accept.specs.Refusals.{refusalIn, acceptRefusal, refusalAt}
 use Rattle.accept.specs.RowChecks.{RowsOf, onlyNodes, TestsOf}
 use Rattle.accept.specs.Marks.{labels, allSlots, slotOf, markBytes, MarksOf}
-use Rattle.accept.proofs.RefusalLaws.{number-positive, items-stop, items-again, list-stop}
+use Rattle.accept.proofs.RefusalLaws.{number-positive, items-stop, items-again}
 use Rattle.accept.proofs.AcceptedRows.{fields-length, row-at, output-kind, output-at}
 use Rattle.accept.proofs.MarkLaws.{slot-small, marks-none}
 

@@ -24,7 +24,7 @@ ghost use Rattle.accept.specs.RowChecks.{BlocksRight, RowsOf, onlyNodes,
 ghost use Rattle.accept.specs.Marks.{allSlots, slotOf, markBytes, bitOf, bitAt, Marked, MarksOf};
 use blockfile::Fields;
 use blockfile::blocks::BlockAnswer;
-use blockfile::blocks::both;
+use blockfile::both;
 
 // What a file is refused for, and the block or the row.
 pub enum FileRefusal {

@@ -1,7 +1,7 @@
 -- An accepted file is ready.
 -- Assumes nothing.
 use Prim.Native.Nat.{ℕ, _+_, _-_, _*_, _<_, _≤_}
-use mathlib.Core.Path.{_≡_, refl, ap, _∙_}
+use mathlib.Core.Path.{_≡_, refl, sym, ap, _∙_, subst}
 use mathlib.Core.List.{List}
 use native.Mathlib.Omega.{arith}
 use lib.ListN.{length, List·getD-map}
@@ -40,3 +40,6 @@ module _ (f : List ℕ) (F : FileRight namesEarlier f) where
 
 pub ready-of : (f : List ℕ) → fileRefusal f ≡ noRefusal → Ready f (length (netlistOf f))
 ready-of f e = ready-right f (file-right namesEarlier f (number-none (fileRefusal f) e))
+
+pub ready-by : (f : List ℕ) (n : ℕ) → fileRefusal f ≡ noRefusal → n ≡ length (netlistOf f) → Ready f n
+ready-by f n e q = subst (Ready f) (sym q) (ready-of f e)

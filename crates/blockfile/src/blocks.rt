@@ -1,13 +1,13 @@
 // Questions 2 to 5, asked of one block of a file.
 ghost use mathlib.Core.Path.{_≡_};
-ghost use mathlib.Core.Bool.{_&&_};
-ghost use Prim.Native.Nat.{_+_, _*_, _%_, _^_, _<_, _≤_};
+ghost use Prim.Native.Nat.{_+_, _*_, _<_, _≤_};
 ghost use lib.ListN.{length};
 ghost use Rattle.memory.specs.Fields.{byteAt};
 ghost use Rattle.netlist.specs.Limits.{mostBlocks};
-ghost use Rattle.netlist.specs.FileFormat.{lastMark, wordSum};
+ghost use Rattle.netlist.specs.FileFormat.{lastMark};
 ghost use Rattle.questions.specs.Questions.{headRight, countRight, unusedRight, blockQuestions};
 ghost use Rattle.blockfile.specs.BlockCode.{blockNumber};
+use crate::both;
 
 // A block is right, or the first question that it answers with no.
 pub enum BlockAnswer {
@@ -20,14 +20,8 @@ pub enum BlockAnswer {
 
 const RIGHT_SUM: u32 = 4294967295;
 
-pub fn both(x: bool, y: bool) -> bool
-    ensures { λ r. ⌜ r ≡ x && y ⌝ }
-{
-    if x { y } else { false }
-}
-
 // Byte 0 of a block.
-fn last_mark(number: usize, blocks: usize) -> u8
+pub fn last_mark(number: usize, blocks: usize) -> u8
     requires { ⌜ number < blocks ⌝ }
     ensures { λ r. ⌜ r ≡ lastMark blocks number ⌝ }
 {

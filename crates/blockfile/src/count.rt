@@ -1,12 +1,13 @@
 // How many rows of each sort a file has.
 ghost use mathlib.Core.Path.{_≡_};
-ghost use mathlib.Core.Bool.{cond, _&&_};
+ghost use mathlib.Core.Bool.{cond};
 ghost use Prim.Native.Nat.{_≤_};
 ghost use Rattle.netlist.specs.Limits.{mostRows};
 ghost use Rattle.netlist.specs.FileFormat.{netlistOf};
 ghost use Rattle.questions.specs.Questions.{countsOf};
 ghost use Rattle.blockfile.specs.Ready.{Ready};
 ghost use Rattle.blockfile.specs.CountCode.{countsIn, withRow, EachAtMost};
+use crate::both;
 
 pub struct Counts {
     pub nodes: usize,
@@ -26,12 +27,6 @@ pub fn none_if(x: bool) -> usize
     ensures { λ r. ⌜ (r ≡ cond x 0 1) × (r ≤ 1) ⌝ }
 {
     if x { 0 } else { 1 }
-}
-
-pub fn both(x: bool, y: bool) -> bool
-    ensures { λ r. ⌜ r ≡ x && y ⌝ }
-{
-    if x { y } else { false }
 }
 
 // The counts with one row more, of this kind and reset.

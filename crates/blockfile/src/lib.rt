@@ -1,15 +1,23 @@
 // The netlist file as bytes: where a row stands, and its fields.
 ghost use mathlib.Core.Path.{_≡_};
+ghost use mathlib.Core.Bool.{_&&_};
 ghost use Prim.Native.Nat.{_+_, _^_, _<_, _≤_};
 ghost use lib.ListN.{length};
+ghost use lib.Seq.{sets};
 ghost use Rattle.memory.specs.Fields.{u16At};
 ghost use Rattle.netlist.specs.Limits.{mostRows};
-ghost use Rattle.netlist.specs.FileFormat.{rowOffset, readFields};
+ghost use Rattle.netlist.specs.FileFormat.{rowOffset, readFields, fieldBytes};
 ghost use Rattle.blockfile.specs.RowCode.{fieldsIn, Small};
 
 pub mod blocks;
 pub mod count;
 pub mod writer;
+
+pub fn both(x: bool, y: bool) -> bool
+    ensures { λ r. ⌜ r ≡ x && y ⌝ }
+{
+    if x { y } else { false }
+}
 
 // A row's fields, as its eight bytes have them.
 pub struct Fields {
@@ -57,4 +65,21 @@ pub fn read_row(file: &[u8], row: usize) -> Fields
         b: b,
         c: c,
     }
+}
+
+pub fn write_row(buffer: &mut [u8], row: usize, fields: Fields)
+    requires { ⌜ (row < mostRows) × (rowOffset row + 8 ≤ length (now buffer)) ⌝ }
+    requires { ⌜ Small fields ⌝ }
+    ensures { λ _. ⌜ now (buffer .exit) ≡ sets (now (buffer .entry)) (rowOffset row) (fieldBytes (fieldsIn fields)) ⌝ }
+{
+    let place = row_place(row);
+    let second = place + 1;
+    let at_a = place + 2;
+    let at_b = place + 4;
+    let at_c = place + 6;
+    buffer[place] = fields.kind;
+    buffer[second] = fields.reset;
+    memory::write_u16(buffer, at_a, fields.a as u32);
+    memory::write_u16(buffer, at_b, fields.b as u32);
+    memory::write_u16(buffer, at_c, fields.c as u32);
 }

@@ -7,7 +7,7 @@ ghost use lib.Seq.{sets};
 ghost use Rattle.memory.specs.Fields.{u32Bytes};
 ghost use Rattle.netlist.specs.Limits.{mostBlocks, mostRows};
 ghost use Rattle.netlist.specs.Rows.{Row};
-ghost use Rattle.netlist.specs.FileFormat.{wordSum, lastMark, checkWord, blockBytes, blocksFor, fileOf};
+ghost use Rattle.netlist.specs.FileFormat.{wordSum, checkWord, blockBytes, blocksFor, fileOf};
 ghost use Rattle.blockfile.specs.RowsStand.{RowsStand};
 
 // The sum of the first words of 32 bits; carries out of 32 bits are dropped.
@@ -24,15 +24,6 @@ pub fn word_sum(bytes: &[u8], words: usize) -> u32
         i += 1;
     }
     sum
-}
-
-// Byte 0 of a block.
-fn mark_of(blocks: usize, number: usize) -> u8
-    requires { ⌜ number < blocks ⌝ }
-    ensures { λ r. ⌜ r ≡ lastMark blocks number ⌝ }
-{
-    let next = number + 1;
-    if next == blocks { 2 } else { 1 }
 }
 
 // How many of the rows stand in a block.
@@ -69,7 +60,7 @@ fn write_block(block: &mut [u8], blocks: usize, number: usize, count: usize)
     requires { ⌜ (length (now block) ≡ 512) × ((count ≤ 63) × ((number < blocks) × (blocks ≤ mostBlocks))) ⌝ }
     ensures { λ _. ⌜ ((rs : List Row) → length rs ≡ count → RowsStand rs (now (block .entry)) → now (block .exit) ≡ blockBytes blocks number rs) ⌝ }
 {
-    let mark = mark_of(blocks, number);
+    let mark = super::blocks::last_mark(number, blocks);
     let place = number as u8;
     let used = count as u8;
     let unused = 4 + 8 * count;

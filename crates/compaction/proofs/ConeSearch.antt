@@ -1,14 +1,12 @@
 -- The search from the roots on: once each found row is visited, the marked rows are the cone of influence.
 -- Assumes nothing.
-use Prim.Native.Nat.{ℕ, zero, suc, _+_, _<_, _≤_}
-use mathlib.Core.Path.{_≡_, refl, sym, ap, _∙_, subst}
+use Prim.Native.Nat.{ℕ, _+_, _<_, _≤_}
+use mathlib.Core.Path.{_≡_, refl, sym, ap, _∙_}
 use mathlib.Core.Bool.{Bool, true, false, cond, false≢true}
 use mathlib.Core.List.{List, [], _∷_}
 use native.Mathlib.Omega.{arith}
-use native.Mathlib.Decide.{ℕ-discrete}
-use lib.ListN.{length, set}
+use lib.ListN.{length}
 use lib.Seq.{ext-getD, getD-set-same, getD-set-other}
-use Rattle.memory.specs.Lists.{tabulate}
 use Rattle.memory.proofs.TestLaws.{last-or, fails}
 use Rattle.memory.proofs.ListLaws.{tabulate-length, tabulate-at}
 use Rattle.netlist.specs.Rows.{Row, constant, rowAt}

@@ -1,32 +1,30 @@
 -- Rows moved down in place: what stands in front after each of them, and the whole.
 -- Assumes nothing.
-use Prim.Native.Nat.{ℕ, suc, _+_, _*_, _<_, _≤_, _/_, _%_, _^_}
+use Prim.Native.Nat.{ℕ, _+_, _<_, _≤_, _/_, _%_, _^_}
 use mathlib.Core.Path.{_≡_, refl, sym, ap, _∙_, subst}
 use mathlib.Core.Logic.{_≢_}
 use mathlib.Core.Bool.{Bool, true, false, cond}
 use mathlib.Core.List.{List, [], _∷_, _++_, append-nil}
 use native.Mathlib.Omega.{arith}
 use native.Mathlib.Numerals.{add-one}
-use lib.ListN.{length, set, length-append, List·getD-append}
+use lib.ListN.{length, length-append, List·getD-append}
 use lib.Seq.{sets, getD-at, ext-getD}
-use lib.Dec.{leb, ltb}
-use borrow.Author.Tests.{lt-ltb, le-ltb, le-leb, lt-leb}
-use Rattle.memory.specs.Fields.{byteAt, u16Bytes}
+use lib.Dec.{ltb}
+use borrow.Author.Tests.{le-leb, lt-leb}
+use Rattle.memory.specs.Fields.{byteAt}
 use Rattle.memory.proofs.TestLaws.{last-or}
 use Rattle.memory.proofs.ListLaws.{tabulate-length, tabulate-at}
-use Rattle.memory.proofs.BufferLaws.{sets-join}
 use Rattle.netlist.specs.Limits.{mostFoldedRows, foldResultBytes}
-use Rattle.netlist.specs.Rows.{Row, RowFields, constant, encodeRow, decodeRow, rowAt, mapLiterals}
+use Rattle.netlist.specs.Rows.{Row, constant, encodeRow, decodeRow, rowAt}
 use Rattle.netlist.specs.FileFormat.{rowOffset, readFields, fieldBytes, rowBytes}
 use Rattle.netlist.proofs.RowLaws.{decode-row}
 use Rattle.netlist.proofs.FileLaws.{fields-read}
-use Rattle.abstraction.specs.Compaction.{faninNodes, isMarked, coneOfInfluence, newIndex, renumberLiteral, compactUpTo, compact}
+use Rattle.abstraction.specs.Compaction.{isMarked, coneOfInfluence, newIndex, renumberLiteral, compactUpTo, compact}
 use Rattle.abstraction.proofs.CompactionLaws.{renumbered, compact-length}
-use Rattle.abstraction.proofs.ConeLaws.{EachBelow}
 use Rattle.blockfile.specs.RowCode.{fieldsIn, Small}
 use Rattle.blockfile.specs.RowsStand.{RowsStand}
 use Rattle.compaction.specs.Compactable.{Compactable, heldRow, heldRows, HeldInside}
-use Rattle.compaction.specs.Slots.{slotAt, markAt, marksIn, bitOf, numberOf, Numbered}
+use Rattle.compaction.specs.Slots.{slotAt, markAt, bitOf, Numbered}
 use Rattle.compaction.specs.Moves.{literalCount, renumberFields, renumberIn, moveRow, RowKept, Movable, MovedTo}
 use Rattle.compaction.proofs.KindLaws.{encode-map, map-same}
 use Rattle.compaction.proofs.SlotLaws.{sets-in, sets-out, bit-le, index-none, index-suc, index-le}
@@ -46,14 +44,6 @@ row-renumbered w count k r a b c a′ b′ c′ e x y z = (rw (x .0, y .0, z .0,
 -- Two rows' places do not meet.
 place-apart : (i j d : ℕ) → i ≢ j → d < 8 → rowOffset i ≤ rowOffset j + d → rowOffset j + d < rowOffset i + 8 → ⊥
 place-apart i j d n h a b = n (omega arith)
-
--- The bytes written one after the other.
-pub row-written : (f f₁ f₂ f₃ : List ℕ) (q k r a b c : ℕ) → f₁ ≡ sets (set (set f q k) (q + 1) r) (q + 2) (u16Bytes a) → f₂ ≡ sets f₁ (q + 4) (u16Bytes b) → f₃ ≡ sets f₂ (q + 6) (u16Bytes c)
-    → f₃ ≡ sets f q (fieldBytes (record { kind = k; reset = r; a = a; b = b; c = c }))
-row-written f f₁ f₂ f₃ q k r a b c e₁ e₂ e₃ =
-    let g₁ : f₁ ≡ sets f q (k ∷ r ∷ u16Bytes a) = e₁ ∙ rw (add-one q) (sets-join (k ∷ r ∷ []) (u16Bytes a) f q) in
-    let g₂ : f₂ ≡ sets f q (k ∷ r ∷ u16Bytes a ++ u16Bytes b) = e₂ ∙ rw g₁ (sets-join (k ∷ r ∷ u16Bytes a) (u16Bytes b) f q) in
-    e₃ ∙ rw g₂ (sets-join (k ∷ r ∷ u16Bytes a ++ u16Bytes b) (u16Bytes c) f q)
 
 -- ---- rows that stand
 

@@ -7,7 +7,6 @@ use mathlib.Core.Bool.{Bool, true, false, cond, true≢false}
 use mathlib.Core.List.{List, [], _∷_, _++_}
 use native.Mathlib.Omega.{arith}
 use native.Mathlib.Decide.{ℕ-discrete}
-use native.Mathlib.Nat.{add-zero}
 use native.Mathlib.Numerals.{add-one}
 use lib.ListN.{length, set, take, drop, replicate, length-set, List·getD-append}
 use lib.Seq.{sets, set-out, set-getD, getD-set-same, getD-set-other, length-take-le, drop-at, getD-take, getD-drop, ext-getD}
@@ -15,7 +14,7 @@ use lib.Dec.{leb}
 use borrow.Author.Tests.{leb-true, leb-false, le-leb, lt-leb}
 use borrow.Rule.Slice.PartMut.{midOf, postOf, putMid, mid-len, take-put, drop-put}
 use Rattle.memory.specs.Lists.{tabulate, countIf}
-use Rattle.memory.specs.Fields.{byteAt, u16At, u16Bytes}
+use Rattle.memory.specs.Fields.{byteAt, u16Bytes}
 use Rattle.memory.proofs.TestLaws.{last-or}
 use Rattle.memory.proofs.ListLaws.{tabulate-length, tabulate-at, count-last}
 use Rattle.memory.proofs.FieldLaws.{u16-read}

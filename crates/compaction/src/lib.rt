@@ -5,11 +5,9 @@ ghost use mathlib.Core.Bool.{cond};
 ghost use mathlib.Core.List.{List, [], _∷_};
 ghost use Prim.Native.Nat.{ℕ, _+_, _*_, _<_, _≤_, _^_};
 ghost use lib.ListN.{length};
-ghost use lib.Seq.{sets};
 ghost use lib.Dec.{ltb};
 ghost use Rattle.netlist.specs.Limits.{mostFoldedRows, foldResultBytes, foldWorkBytes};
 ghost use Rattle.netlist.specs.Rows.{Row, rowFromFields, decodeRow};
-ghost use Rattle.netlist.specs.FileFormat.{rowOffset, fieldBytes};
 ghost use Rattle.abstraction.specs.Compaction.{
   faninNodes,
   isConeRoot,
@@ -287,23 +285,6 @@ fn renumber_row(slots: &[u8], row: Fields) -> Fields
     }
 }
 
-fn write_row(result: &mut [u8], row: usize, fields: Fields)
-    requires { ⌜ (row < mostFoldedRows) × (foldResultBytes ≤ length (now result)) ⌝ }
-    requires { ⌜ Small fields ⌝ }
-    ensures { λ _. ⌜ now (result .exit) ≡ sets (now (result .entry)) (rowOffset row) (fieldBytes (fieldsIn fields)) ⌝ }
-{
-    let place = blockfile::row_place(row);
-    let second = place + 1;
-    let at_a = place + 2;
-    let at_b = place + 4;
-    let at_c = place + 6;
-    result[place] = fields.kind;
-    result[second] = fields.reset;
-    memory::write_u16(result, at_a, fields.a as u32);
-    memory::write_u16(result, at_b, fields.b as u32);
-    memory::write_u16(result, at_c, fields.c as u32);
-}
-
 // The row, renumbered, is written as row `to`.
 fn move_row(result: &mut [u8], slots: &[u8], row: usize, to: usize)
     requires { ⌜ (row < mostFoldedRows) × (to ≤ row) ⌝ }
@@ -312,7 +293,7 @@ fn move_row(result: &mut [u8], slots: &[u8], row: usize, to: usize)
 {
     let fields = blockfile::read_row(result, row);
     let moved = renumber_row(slots, fields);
-    write_row(result, to, moved);
+    blockfile::write_row(result, to, moved);
 }
 
 // The row is moved if it is marked; answers the place of the next one.

@@ -4,21 +4,18 @@ use Prim.Native.Nat.{ℕ, zero, suc, _+_, _<_, _≤_, _^_}
 use mathlib.Core.Path.{_≡_, refl, sym, ap, _∙_, subst}
 use mathlib.Core.List.{List, [], _∷_, _++_}
 use native.Mathlib.Omega.{arith}
-use native.Mathlib.Numerals.{add-one}
 use lib.ListN.{length, set, length-set, length-append, List·getD-append}
 use lib.Seq.{sets, getD-set-same, getD-set-other, getD-at}
 use Rattle.memory.specs.Lists.{joinBelow}
 use Rattle.memory.specs.Fields.{byteAt, u16At, u16Bytes}
 use Rattle.memory.proofs.TestLaws.{last-or}
 use Rattle.memory.proofs.ListLaws.{tabulate-at}
-use Rattle.memory.proofs.BufferLaws.{sets-join}
 use Rattle.memory.proofs.FieldLaws.{u16-read}
 use Rattle.netlist.specs.Limits.{mostRows, foldResultBytes}
 use Rattle.netlist.specs.Rows.{Row, constant, rowAt}
-use Rattle.netlist.specs.FileFormat.{rowOffset, fieldBytes, rowBytes}
+use Rattle.netlist.specs.FileFormat.{rowOffset, rowBytes}
 use Rattle.blockfile.specs.RowsStand.{RowsStand}
-use Rattle.gates.specs.declared.MadeRow.{MadeRow}
-use Rattle.fold.specs.UnrollMap.{fieldsMade, imagePlace, imagesIn}
+use Rattle.fold.specs.UnrollMap.{imagePlace, imagesIn}
 
 -- ---- a run of bytes
 
@@ -43,15 +40,6 @@ pub u16-back : (w : List ℕ) (p v : ℕ) → v < 2 ^ 16 → p + 2 ≤ length w 
 u16-back w p v l h =
     let e : p + 0 ≡ p = omega arith in
     u16-read (sets w p (u16Bytes v)) p v l (rw e at (sets-in (u16Bytes v) w p 0 h (omega arith))) (sets-in (u16Bytes v) w p 1 h (omega arith))
-
--- The eight bytes of a row, written one field after another.
-pub row-stored : (l w₁ w₂ w₃ : List ℕ) (p place : ℕ) (x : MadeRow) → p ≡ place → w₁ ≡ sets (set (set l p (x .kind)) (p + 1) (x .reset)) (p + 2) (u16Bytes (x .a)) → w₂ ≡ sets w₁ (p + 4) (u16Bytes (x .b)) → w₃ ≡ sets w₂ (p + 6) (u16Bytes (x .c))
-    → w₃ ≡ sets l place (fieldBytes (fieldsMade x))
-row-stored l w₁ w₂ w₃ p place x e f g h =
-    let head = x .kind ∷ x .reset ∷ [] in
-    let a : w₁ ≡ sets l p (head ++ u16Bytes (x .a)) = f ∙ rw (add-one p) (sets-join head (u16Bytes (x .a)) l p) in
-    let b : w₂ ≡ sets l p ((head ++ u16Bytes (x .a)) ++ u16Bytes (x .b)) = g ∙ rw a (sets-join (head ++ u16Bytes (x .a)) (u16Bytes (x .b)) l p) in
-    h ∙ rw (b, ← e) (sets-join ((head ++ u16Bytes (x .a)) ++ u16Bytes (x .b)) (u16Bytes (x .c)) l p)
 
 -- ---- images
 

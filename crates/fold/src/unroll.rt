@@ -46,16 +46,17 @@ fn put_row(result: &mut [u8], row: usize, x: MadeRow)
     requires { ⌜ (row < mostRows) × (foldResultBytes ≤ length (now result)) ⌝ }
     ensures { λ _. ⌜ now (result .exit) ≡ sets (now (result .entry)) (rowOffset row) (fieldBytes (fieldsMade x)) ⌝ }
 {
-    let place = blockfile::row_place(row);
-    let second = place + 1;
-    let at_a = place + 2;
-    let at_b = place + 4;
-    let at_c = place + 6;
-    result[place] = x.kind;
-    result[second] = x.reset;
-    memory::write_u16(result, at_a, x.a as u32);
-    memory::write_u16(result, at_b, x.b as u32);
-    memory::write_u16(result, at_c, x.c as u32);
+    let a = x.a as usize;
+    let b = x.b as usize;
+    let c = x.c as usize;
+    let fields = Fields {
+        kind: x.kind,
+        reset: x.reset,
+        a: a,
+        b: b,
+        c: c,
+    };
+    blockfile::write_row(result, row, fields);
 }
 
 // Where the image of row i in phase k stands.

@@ -1,7 +1,7 @@
 -- Questions 1 to 15: the phase of a row, the first row that has one, and the first no of the questions in order.
 -- Assumes nothing.
 use Prim.Native.Nat.{ℕ, zero, suc, _+_, _<_, _≤_}
-use mathlib.Core.Path.{_≡_, refl, sym, ap, _∙_, subst}
+use mathlib.Core.Path.{_≡_, refl, sym, ap, _∙_}
 use mathlib.Core.Bool.{Bool, true, false, cond, _&&_}
 use mathlib.Core.List.{List, [], _∷_}
 use native.Mathlib.Omega.{arith}
@@ -16,19 +16,18 @@ use Rattle.netlist.specs.Limits.{mostPhases, mostOriginalRows, mostOriginalRegi
 use Rattle.netlist.specs.Rows.{Row, RowFields, rowFromFields, decodeRow, rowAt, phaseOf, isRegister}
 use Rattle.netlist.specs.FileFormat.{readFields, netlistOf}
 use Rattle.questions.specs.Questions.{Refusal, noRefusal, question, itemQuestions, fileRefusal, phaseQuestion, originalRefusal, foldMemoryRight, Counts, countsOf}
-use Rattle.questions.proofs.QuestionLaws.{list-next, all-yes, _then_, number-none, question-of}
+use Rattle.questions.proofs.QuestionLaws.{list-next, all-yes, _then_, number-none, question-of, list-stop, question-no}
 use Rattle.questions.proofs.PlainWords.{phaseQuestion-iff}
 use Rattle.blockfile.specs.declared.Fields.{Fields}
 use Rattle.blockfile.specs.declared.count.Counts as code
 use Rattle.blockfile.specs.RowCode.{fieldsIn}
 use Rattle.blockfile.specs.CountCode.{countsIn}
 use Rattle.blockfile.specs.Ready.{Ready}
-use Rattle.blockfile.proofs.ReadyLaws.{ready-of}
 use Rattle.accept.specs.declared.FileRefusal.{FileRefusal}
 use Rattle.accept.specs.declared.Acceptance.{Acceptance}
 use Rattle.accept.specs.declared.Acceptance.the-variants.{Accepted, Refused}
-use Rattle.accept.specs.Refusals.{refusalIn, acceptRefusal}
-use Rattle.accept.proofs.RefusalLaws.{number-positive, list-stop}
+use Rattle.accept.specs.Refusals.{acceptRefusal}
+use Rattle.accept.proofs.RefusalLaws.{number-positive, accepted-none, refused-is}
 use Rattle.lasso_finder.proofs.SearchLaws.{first-found}
 use Rattle.fold_core.specs.declared.early.Asked.{Asked}
 use Rattle.fold_core.specs.declared.early.Asked.the-variants.{Passed, Stopped}
@@ -127,9 +126,6 @@ fold-number-positive Wish = omega arith
 fold-number-positive Memory = omega arith
 fold-number-positive NoLasso = omega arith
 
-question-no : (k : ℕ) (t : Bool) → t ≡ false → question k t ≡ record { number = k; place = 0 }
-question-no k t e = rw e
-
 module _ (n : ℕ) (q : Refusal) (qs : List Refusal) where
   answer-stop : (x : FoldRefusal) → q ≡ foldRefusalIn x → AnswersTo (q ∷ qs) n (Stopped x)
   answer-stop x e = record {
@@ -227,16 +223,7 @@ module _ (rows : List Row) (n : ℕ) (count : n ≡ length rows) (qs : List Refu
 
 -- ---- 1 to 10, then the others
 
-pub ready-by : (file : List ℕ) (n : ℕ) → fileRefusal file ≡ noRefusal → n ≡ length (netlistOf file) → Ready file n
-ready-by file n e q = subst (Ready file) (sym q) (ready-of file e)
-
 module _ (file : List ℕ) (checked : Acceptance) (answered : acceptRefusal checked ≡ fileRefusal file) where
-  pub accepted-none : checked ≡ Accepted → fileRefusal file ≡ noRefusal
-  accepted-none e = sym answered ∙ ap acceptRefusal e
-
-  refused-is : (r : FileRefusal) → checked ≡ Refused r → refusalIn r ≡ fileRefusal file
-  refused-is r e = sym (ap acceptRefusal e) ∙ answered
-
   module _ (wish result work clocks : ℕ) where
     -- 11 to 15.
     abbrev askedAfter : List Refusal
@@ -247,7 +234,7 @@ module _ (file : List ℕ) (checked : Acceptance) (answered : acceptRefusal chec
     all-asked n a count A = record { refusal = A .refusal; rows = λ m e. A .rows m e ∙ count }
 
     pub file-no : (r : FileRefusal) → checked ≡ Refused r → Questioned file wish result work clocks (Stopped (File r))
-    file-no r e = all-asked (length (netlistOf file)) (Stopped (File r)) refl (answer-stop (length (netlistOf file)) (fileRefusal file) askedAfter (File r) (sym (refused-is r e)))
+    file-no r e = all-asked (length (netlistOf file)) (Stopped (File r)) refl (answer-stop (length (netlistOf file)) (fileRefusal file) askedAfter (File r) (sym (refused-is file checked answered r e)))
 
     pub original-asked : checked ≡ Accepted → (n : ℕ) → n ≡ length (netlistOf file) → (a : Asked) → AnswersTo askedAfter n a → Questioned file wish result work clocks a
-    original-asked e n count a A = all-asked n a count (answer-next n (fileRefusal file) askedAfter a (number-none (fileRefusal file) (accepted-none e)) A)
+    original-asked e n count a A = all-asked n a count (answer-next n (fileRefusal file) askedAfter a (number-none (fileRefusal file) (accepted-none file checked answered e)) A)

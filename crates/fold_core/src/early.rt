@@ -73,8 +73,8 @@ fn ask_arguments(rows: usize, wish: u32, result: usize, work: usize, clocks: usi
     let result_right = RESULT_BYTES <= result;
     let work_right = WORK_BYTES <= work;
     let clocks_right = CLOCK_ENTRIES <= clocks;
-    let both_right = blockfile::count::both(result_right, work_right);
-    let lent = blockfile::count::both(both_right, clocks_right);
+    let both_right = blockfile::both(result_right, work_right);
+    let lent = blockfile::both(both_right, clocks_right);
     if lent {
         Asked::Passed(rows)
     } else {

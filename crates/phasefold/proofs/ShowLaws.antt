@@ -11,14 +11,13 @@ use lib.Seq.{getD-take, getD-drop, ext-getD}
 use borrow.Author.Tests.{lt-ltb, le-ltb, ne-eqb}
 use Rattle.netlist.specs.FileFormat.{blockAt, rowPart, blockCount}
 use Rattle.questions.specs.Questions.{Refusal, noRefusal, firstRefusal, question, fileRefusal, showRefusal}
-use Rattle.questions.proofs.QuestionLaws.{list-next, number-none}
+use Rattle.questions.proofs.QuestionLaws.{list-next, number-none, list-stop}
 use Rattle.accept.specs.Refusals.{numberOf, placeOf, refusalIn, acceptRefusal}
 use Rattle.accept.specs.declared.FileRefusal.{FileRefusal}
 use Rattle.accept.specs.declared.Acceptance.{Acceptance}
 use Rattle.accept.specs.declared.Acceptance.the-variants.{Accepted, Refused}
-use Rattle.accept.proofs.RefusalLaws.{number-positive, list-stop}
+use Rattle.accept.proofs.RefusalLaws.{number-positive, accepted-none, refused-is}
 use Rattle.phasefold.specs.Outcomes.{Shown}
-use Rattle.phasefold.proofs.AnswerLaws.{accepted-none, refused-is}
 
 -- The row part as one part of the file.
 part-is : (file : List ℕ) (B n : ℕ) → n ≡ 504 → 512 * B + 512 ≤ length file → take n (drop (512 * B + 4) file) ≡ rowPart file B

@@ -24,6 +24,14 @@ list-none q qs h = go (q .number) refl h
 pub list-next : (q : Refusal) (qs : List Refusal) → q .number ≡ 0 → firstRefusal (q ∷ qs) ≡ firstRefusal qs
 list-next q qs e = ap (λ (n : ℕ). elim n as (λ _. Refusal) [ zero ↦ firstRefusal qs | suc m ↦ q ]) e
 
+-- A question that is answered with no decides.
+pub list-stop : (q : Refusal) (qs : List Refusal) → 0 < q .number → firstRefusal (q ∷ qs) ≡ q
+list-stop q qs h = go (q .number) refl
+  where
+    go : (n : ℕ) → q .number ≡ n → (elim n as (λ _. Refusal) [ zero ↦ firstRefusal qs | suc m ↦ q ]) ≡ q
+    go zero e = absurd (omega arith)
+    go (suc m) e = refl
+
 -- Each question of the list is passed.
 abbrev pub NoneRefuses : List Refusal → Type 0
 NoneRefuses [] = Unit {0}
@@ -53,6 +61,9 @@ question-none n false h = absurd (omega arith)
 
 pub question-yes : (n : ℕ) (t : Bool) → t ≡ true → question n t ≡ noRefusal
 question-yes n t e = rw e
+
+pub question-no : (n : ℕ) (t : Bool) → t ≡ false → question n t ≡ record { number = n; place = 0 }
+question-no n t e = rw e
 
 pub question-of : (n : ℕ) (t : Bool) → t ≡ true → question n t .number ≡ 0
 question-of n t e = number-none (question n t) (question-yes n t e)

@@ -1,7 +1,7 @@
 -- Run's questions by the counts, in order.
 -- Assumes nothing.
 use Prim.Native.Nat.{ℕ, suc, _+_, _*_, _<_, _≤_}
-use mathlib.Core.Path.{_≡_, refl, sym, ap, _∙_, subst}
+use mathlib.Core.Path.{_≡_, refl, sym, ap, _∙_}
 use mathlib.Core.Bool.{Bool, true, false, not, _&&_}
 use mathlib.Core.List.{List, [], _∷_}
 use native.Mathlib.Omega.{arith}
@@ -15,17 +15,15 @@ use Rattle.memory.specs.Fields.{byteAt}
 use Rattle.netlist.specs.Limits.{mostRows, mostSteps, runWorkBytes}
 use Rattle.netlist.specs.Rows.{Row}
 use Rattle.netlist.specs.FileFormat.{netlistOf}
-use Rattle.questions.specs.Questions.{Refusal, noRefusal, firstRefusal, question, fileRefusal, Counts, countsOf, valueListsRight, allBinary, runMemoryRight, runRefusal}
-use Rattle.questions.proofs.QuestionLaws.{list-next, number-none}
+use Rattle.questions.specs.Questions.{Refusal, firstRefusal, question, fileRefusal, Counts, countsOf, valueListsRight, allBinary, runMemoryRight, runRefusal}
+use Rattle.questions.proofs.QuestionLaws.{list-next, number-none, list-stop}
 use Rattle.blockfile.specs.CountCode.{EachAtMost}
-use Rattle.blockfile.specs.Ready.{Ready}
-use Rattle.blockfile.proofs.ReadyLaws.{ready-of}
 use Rattle.blockfile.proofs.CountLaws.{counts-small, most-more, counts-all}
-use Rattle.accept.specs.Refusals.{refusalIn, acceptRefusal}
+use Rattle.accept.specs.Refusals.{acceptRefusal}
 use Rattle.accept.specs.declared.FileRefusal.{FileRefusal}
 use Rattle.accept.specs.declared.Acceptance.{Acceptance}
 use Rattle.accept.specs.declared.Acceptance.the-variants.{Accepted, Refused}
-use Rattle.accept.proofs.RefusalLaws.{number-positive, list-stop}
+use Rattle.accept.proofs.RefusalLaws.{number-positive, accepted-none, refused-is}
 use Rattle.run_core.specs.RunAnswers.{runRefusalIn}
 use Rattle.run_core.specs.RunPlans.{stepsRefusal, StepsPlanned, RunPlanned}
 use Rattle.run_core.specs.declared.RunRefusal.{RunRefusal}
@@ -152,12 +150,6 @@ module _ (file : List ℕ) (T : ℕ) (choices inputs : List ℕ) (result work : 
   abbrev later : List Refusal
   later = question 17 (leb T mostSteps) ∷ from18 0 (countsOf (netlistOf file)) T choices inputs result work (netlistOf file)
 
-  pub file-right : a ≡ Accepted → fileRefusal file ≡ noRefusal
-  file-right e = sym checked ∙ ap acceptRefusal e
-
-  pub ready-by : (n : ℕ) → a ≡ Accepted → n ≡ length (netlistOf file) → Ready file n
-  ready-by n e q = subst (Ready file) (sym q) (ready-of file (file-right e))
-
   pub counts-few : (n : ℕ) → n ≡ length (netlistOf file) → n ≤ mostRows → (c : Counts) → c ≡ countsOf (netlistOf file) → EachAtMost c mostRows
   counts-few n q h c e = most-more c n mostRows h (counts-small (netlistOf file) n c (e ∙ sym (counts-all (netlistOf file) n q)))
 
@@ -165,14 +157,14 @@ module _ (file : List ℕ) (T : ℕ) (choices inputs : List ℕ) (result work : 
   unfolding runRefusal stepsRefusal
   planned-by n c plan e q k P =
       record {
-        refusal = P .refusal (netlistOf file) k ∙ sym (list-next (fileRefusal file) later (number-none (fileRefusal file) (file-right e)));
+        refusal = P .refusal (netlistOf file) k ∙ sym (list-next (fileRefusal file) later (number-none (fileRefusal file) (accepted-none file a checked e)));
         go = λ rows nodes ins g. (P .go rows nodes ins g .0 ∙ q, (P .go rows nodes ins g .1 .0 ∙ ap (λ (x : Counts). x .nodes) k, P .go rows nodes ins g .1 .1 ∙ ap (λ (x : Counts). x .inputs) k));
       }
 
   pub planned-refused : (r : FileRefusal) → a ≡ Refused r → RunPlanned file T choices inputs result work (Stop (File r))
   unfolding runRefusal
   planned-refused r e =
-      let q : refusalIn r ≡ fileRefusal file = sym (ap acceptRefusal e) ∙ checked in
+      let q = refused-is file a checked r e in
       record {
         refusal = q ∙ sym (list-stop (fileRefusal file) later (omega (arith, number-positive r, ap (λ (x : Refusal). x .number) q)));
         go = λ rows nodes ins g. absurd (stop-not-go (File r) g);

@@ -10,8 +10,8 @@ ghost use Rattle.run_core.specs.RunPlans.{StepsPlanned, RunPlanned};
 ghost use Rattle.run_core.specs.Ran.{Ran};
 use accept::Acceptance;
 use accept::FileRefusal;
+use blockfile::both;
 use blockfile::count::Counts;
-use blockfile::count::both;
 
 // What a run is refused for; of a file, with its place.
 pub enum RunRefusal {

@@ -179,7 +179,7 @@ fn unknown_at(file: &[u8], row: usize) -> usize
     let second = place + 1;
     let kind = file[place];
     let reset = file[second];
-    let unknown = blockfile::count::both(kind == 2, reset == 2);
+    let unknown = blockfile::both(kind == 2, reset == 2);
     blockfile::count::one_if(unknown)
 }
 

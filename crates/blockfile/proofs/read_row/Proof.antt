@@ -4,10 +4,6 @@ use Rattle.blockfile.proofs.RowCodeLaws.{row-read}
 use borrow.Author.Needs.{needs}
 use Rattle.blockfile.proofs.read_row.Statement.{statement}
 use Rattle.blockfile.proofs.read_row.Tie as tie
-use Rattle.blockfile.proofs.read_row.Reads as reads
-use Rattle.blockfile.proofs.read_row.Lts as lts
-use Rattle.blockfile.proofs.field_at.Reads as field-at-reads
-use Rattle.blockfile.proofs.row_place.Reads as row-place-reads
 
 -- src/lib.rt:39:9
 row-place-requires : tie.Need-row-place-requires

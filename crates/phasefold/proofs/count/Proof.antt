@@ -1,7 +1,9 @@
 -- `phasefold::count` answers the counts of an accepted file, or Check's refusal.
 -- Assumes nothing.
 use borrow.Author.Needs.{needs}
-use Rattle.phasefold.proofs.AnswerLaws.{ready-by, accepted-none, count-refused, count-answered}
+use Rattle.blockfile.proofs.ReadyLaws.{ready-by}
+use Rattle.accept.proofs.RefusalLaws.{accepted-none}
+use Rattle.phasefold.proofs.AnswerLaws.{count-refused, count-answered}
 use Rattle.phasefold.proofs.count.Statement.{statement}
 use Rattle.phasefold.proofs.count.Tie as tie
 

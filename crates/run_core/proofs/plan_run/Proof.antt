@@ -1,7 +1,9 @@
 -- `run_core::plan_run` asks Check's questions, then 17 to 20.
 -- Assumes nothing.
 use Rattle.blockfile.specs.CountCode.{countsIn}
-use Rattle.run_core.proofs.PlanLaws.{file-right, ready-by, counts-few, planned-by, planned-refused}
+use Rattle.blockfile.proofs.ReadyLaws.{ready-by}
+use Rattle.accept.proofs.RefusalLaws.{accepted-none}
+use Rattle.run_core.proofs.PlanLaws.{counts-few, planned-by, planned-refused}
 use borrow.Author.Needs.{needs}
 use Rattle.run_core.proofs.plan_run.Statement.{statement}
 use Rattle.run_core.proofs.plan_run.Tie as tie
@@ -16,11 +18,11 @@ enum-told c = search needs
 
 -- src/lib.rt:125:17
 row-count-requires : tie.Need-row-count-requires
-row-count-requires c κs = file-right (c .before .before .before .before .before .before .args .file .now) (c .before .before .before .before .before .before .args .steps) (c .before .before .before .before .before .before .args .choices .now) (c .before .before .before .before .before .before .args .inputs .now) (c .before .before .before .before .before .before .args .result) (c .before .before .before .before .before .before .args .work) (c .before .before .accept .result) (c .before .before .accept .ensures) (c .enum-told .given .1)
+row-count-requires c κs = accepted-none (c .before .before .before .before .before .before .args .file .now) (c .before .before .accept .result) (c .before .before .accept .ensures) (c .enum-told .given .1)
 
 -- src/lib.rt:126:17
 count-rows-requires : tie.Need-count-rows-requires
-count-rows-requires c κs = ready-by (c .before .before .before .before .before .before .before .args .file .now) (c .before .before .before .before .before .before .before .args .steps) (c .before .before .before .before .before .before .before .args .choices .now) (c .before .before .before .before .before .before .before .args .inputs .now) (c .before .before .before .before .before .before .before .args .result) (c .before .before .before .before .before .before .before .args .work) (c .before .before .before .accept .result) (c .before .before .before .accept .ensures) (c .row-count .result) (c .before .enum-told .given .1) (c .row-count .ensures .0)
+count-rows-requires c κs = ready-by (c .before .before .before .before .before .before .before .args .file .now) (c .row-count .result) (accepted-none (c .before .before .before .before .before .before .before .args .file .now) (c .before .before .before .accept .result) (c .before .before .before .accept .ensures) (c .before .enum-told .given .1)) (c .row-count .ensures .0)
 
 -- src/lib.rt:127:13
 plan-steps-requires : tie.Need-plan-steps-requires

@@ -5,8 +5,8 @@ use Rattle.blockfile.proofs.WriterLaws.{block-written}
 use Rattle.blockfile.proofs.writer.write_block.Statement.{statement}
 use Rattle.blockfile.proofs.writer.write_block.Tie as tie
 
-mark-of-requires : tie.Need-mark-of-requires
-mark-of-requires c κs = search needs
+last-mark-requires : tie.Need-last-mark-requires
+last-mark-requires c κs = search needs
 
 cast-place : tie.Need-cast-place
 cast-place c = search needs
@@ -41,13 +41,13 @@ returns c =
     let start = marked .before .before in
     let w = start .args in
     λ rs count stand.
-    block-written (w .blocks) (w .number) (w .count) (w .block .now) (start .pre .0) (start .pre .1 .0) rs count stand (marked .mark-of .result) (headed .write-head .last .0) (cleared .clear-from .last .0) (checked .write-check .last .0) (marked .mark-of .ensures) (headed .write-head .ensures) (cleared .clear-from .ensures) (checked .write-check .ensures)
+    block-written (w .blocks) (w .number) (w .count) (w .block .now) (start .pre .0) (start .pre .1 .0) rs count stand (marked .last-mark .result) (headed .write-head .last .0) (cleared .clear-from .last .0) (checked .write-check .last .0) (marked .last-mark .ensures) (headed .write-head .ensures) (cleared .clear-from .ensures) (checked .write-check .ensures)
 
 pub write-block-spec : {M : Type 1} → statement M
 write-block-spec =
     tie.close
     (tie.spec
-    mark-of-requires
+    last-mark-requires
     cast-place
     cast-used
     mul-unused

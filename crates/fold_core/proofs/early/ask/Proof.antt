@@ -1,7 +1,9 @@
 -- `ask` meets its contract: Check's questions, then the others of the accepted file.
 -- Assumes nothing.
 use borrow.Author.Needs.{needs}
-use Rattle.fold_core.proofs.EarlyLaws.{ready-by, accepted-none, file-no, original-asked}
+use Rattle.blockfile.proofs.ReadyLaws.{ready-by}
+use Rattle.accept.proofs.RefusalLaws.{accepted-none}
+use Rattle.fold_core.proofs.EarlyLaws.{file-no, original-asked}
 use Rattle.fold_core.proofs.early.ask.Statement.{statement}
 use Rattle.fold_core.proofs.early.ask.Tie as tie
 

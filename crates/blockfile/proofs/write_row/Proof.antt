@@ -6,10 +6,10 @@ use lib.ListN.{length, length-set}
 use lib.Seq.{sets}
 use borrow.Author.Needs.{needs}
 use Rattle.netlist.specs.FileFormat.{fieldBytes}
 use Rattle.blockfile.specs.RowCode.{fieldsIn}
-use Rattle.compaction.proofs.MoveLaws.{row-written}
-use Rattle.compaction.proofs.write_row.Statement.{statement}
-use Rattle.compaction.proofs.write_row.Tie as tie
+use Rattle.blockfile.proofs.RowCodeLaws.{row-written}
+use Rattle.blockfile.proofs.write_row.Statement.{statement}
+use Rattle.blockfile.proofs.write_row.Tie as tie
 
 row-place-requires : tie.Need-row-place-requires
 row-place-requires c κs = search needs
@@ -26,11 +26,11 @@ add-at-b c = search needs
 add-at-c : tie.Need-add-at-c
 add-at-c c = search needs
 
-slice-write-result : tie.Need-slice-write-result
-slice-write-result c = search needs
+slice-write-buffer : tie.Need-slice-write-buffer
+slice-write-buffer c = search needs
 
-slice-write-result-2 : tie.Need-slice-write-result-2
-slice-write-result-2 c = simp length-set (omega (arith, c .row-place .ensures))
+slice-write-buffer-2 : tie.Need-slice-write-buffer-2
+slice-write-buffer-2 c = simp length-set (omega (arith, c .row-place .ensures))
 
 cast-write-u16 : tie.Need-cast-write-u16
 cast-write-u16 c = search needs
@@ -44,7 +44,7 @@ cast-write-u16-2 c = search needs
 write-u16-requires-2 : tie.Need-write-u16-requires-2
 write-u16-requires-2 c κs =
     let write-u16 = c .before .before .before .before .write-u16 in
-    let e : length (write-u16 .last .0) ≡ length (c .before .before .before .before .before .before .before .before .before .args .result .now) = write-u16 .kept .0 ∙ simp length-set in omega (arith, c .before .before .before .before .before .before .before .row-place .ensures)
+    let e : length (write-u16 .last .0) ≡ length (c .before .before .before .before .before .before .before .before .before .args .buffer .now) = write-u16 .kept .0 ∙ simp length-set in omega (arith, c .before .before .before .before .before .before .before .row-place .ensures)
 
 cast-write-u16-3 : tie.Need-cast-write-u16-3
 cast-write-u16-3 c = search needs
@@ -52,7 +52,7 @@ cast-write-u16-3 c = search needs
 write-u16-requires-3 : tie.Need-write-u16-requires-3
 write-u16-requires-3 c κs =
     let write-u16 = c .before .before .before .before .before .before .before .before .before .write-u16 in
-    let e : length (write-u16 .last .0) ≡ length (c .before .before .before .before .before .before .before .before .before .before .before .before .before .before .args .result .now) = write-u16 .kept .0 ∙ simp length-set in omega (arith, c .before .before .before .before .write-u162 .kept .0, c .before .before .before .before .before .before .before .before .before .before .before .before .row-place .ensures)
+    let e : length (write-u16 .last .0) ≡ length (c .before .before .before .before .before .before .before .before .before .before .before .before .before .before .args .buffer .now) = write-u16 .kept .0 ∙ simp length-set in omega (arith, c .before .before .before .before .write-u162 .kept .0, c .before .before .before .before .before .before .before .before .before .before .before .before .row-place .ensures)
 
 same-length : tie.Need-same-length
 same-length c = c .before .before .write-u163 .kept .0 ∙ c .before .before .before .before .before .before .before .write-u162 .kept .0 ∙ c .before .before .before .before .before .before .before .before .before .before .before .before .write-u16 .kept .0 ∙ simp length-set
@@ -64,7 +64,7 @@ returns c =
     let write-u162 = c .before .before .before .before .before .before .before .write-u162 in
     let write-u163 = c .before .before .write-u163 in
     let row-place = c .before .before .before .before .before .before .before .before .before .before .before .before .before .before .before .row-place in
-    row-written (args .result .now) (write-u16 .last .0) (write-u162 .last .0) (write-u163 .last .0) (row-place .result) (args .fields .kind) (args .fields .reset) (args .fields .a) (args .fields .b) (args .fields .c) (write-u16 .ensures) (write-u162 .ensures) (write-u163 .ensures) ∙ ap (λ x. sets (args .result .now) x (fieldBytes (fieldsIn (args .fields)))) (row-place .ensures)
+    row-written (args .buffer .now) (write-u16 .last .0) (write-u162 .last .0) (write-u163 .last .0) (row-place .result) (args .fields .kind) (args .fields .reset) (args .fields .a) (args .fields .b) (args .fields .c) (write-u16 .ensures) (write-u162 .ensures) (write-u163 .ensures) ∙ ap (λ x. sets (args .buffer .now) x (fieldBytes (fieldsIn (args .fields)))) (row-place .ensures)
 
 pub write-row-spec : {M : Type 1} → statement M
 write-row-spec =
@@ -75,8 +75,8 @@ write-row-spec =
     add-at-a
     add-at-b
     add-at-c
-    slice-write-result
-    slice-write-result-2
+    slice-write-buffer
+    slice-write-buffer-2
     cast-write-u16
     write-u16-requires
     cast-write-u16-2
