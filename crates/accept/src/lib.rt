@@ -19,7 +19,7 @@ ghost use Rattle.questions.specs.Questions.{
 };
 ghost use Rattle.blockfile.specs.RowCode.{fieldsIn, Small};
 ghost use Rattle.blockfile.specs.BlockCode.{blockNumber};
-ghost use Rattle.accept.specs.Refusals.{acceptRefusal, refusalAt, blocksRefusal};
+ghost use Rattle.accept.specs.Refusals.{numberOf, placeOf, acceptRefusal, refusalAt, blocksRefusal};
 ghost use Rattle.accept.specs.RowChecks.{BlocksRight, RowsOf, onlyNodes, TestsOf};
 ghost use Rattle.accept.specs.Marks.{allSlots, slotOf, markBytes, bitOf, bitAt, Marked, MarksOf};
 use blockfile::Fields;
@@ -38,6 +38,41 @@ pub enum FileRefusal {
     Label { row: u32 },
     Literal { row: u32 },
     NoOutput,
+}
+
+// The paper's number of a refusal, and its place.
+pub fn number_of(refusal: FileRefusal) -> u32
+    ensures { λ r. ⌜ r ≡ numberOf refusal ⌝ }
+{
+    match refusal {
+        FileRefusal::Length => 1,
+        FileRefusal::Sum { block: _ } => 2,
+        FileRefusal::Header { block: _ } => 3,
+        FileRefusal::RowCount { block: _ } => 4,
+        FileRefusal::Unused { block: _ } => 5,
+        FileRefusal::Kind { row: _ } => 6,
+        FileRefusal::Field { row: _ } => 7,
+        FileRefusal::Label { row: _ } => 8,
+        FileRefusal::Literal { row: _ } => 9,
+        FileRefusal::NoOutput => 10,
+    }
+}
+
+pub fn place_of(refusal: FileRefusal) -> u32
+    ensures { λ r. ⌜ r ≡ placeOf refusal ⌝ }
+{
+    match refusal {
+        FileRefusal::Length => 0,
+        FileRefusal::Sum { block } => block,
+        FileRefusal::Header { block } => block,
+        FileRefusal::RowCount { block } => block,
+        FileRefusal::Unused { block } => block,
+        FileRefusal::Kind { row } => row,
+        FileRefusal::Field { row } => row,
+        FileRefusal::Label { row } => row,
+        FileRefusal::Literal { row } => row,
+        FileRefusal::NoOutput => 0,
+    }
 }
 
 pub enum Acceptance {

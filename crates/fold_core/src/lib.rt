@@ -1,6 +1,6 @@
 // Fold over plain slices: questions 1 to 16, then the stages in turn; the clock entries stay packed in the work memory.
 ghost use mathlib.Core.Path.{_≡_};
-ghost use Rattle.fold_core.specs.FoldAnswers.{usedIn};
+ghost use Rattle.fold_core.specs.FoldAnswers.{foldRefusalIn, usedIn};
 ghost use Rattle.fold_core.specs.FoldOutcome.{CoreFolded};
 use accept::FileRefusal;
 use early::Asked;
@@ -17,6 +17,35 @@ pub enum FoldRefusal {
     Wish,
     Memory,
     NoLasso,
+}
+
+// The paper's number of a refusal, and its place.
+pub fn number_of(refusal: FoldRefusal) -> u32
+    ensures { λ r. ⌜ r ≡ foldRefusalIn refusal .number ⌝ }
+{
+    match refusal {
+        FoldRefusal::File(file) => accept::number_of(file),
+        FoldRefusal::Rows => 11,
+        FoldRefusal::Registers => 12,
+        FoldRefusal::Phase { row: _ } => 13,
+        FoldRefusal::Wish => 14,
+        FoldRefusal::Memory => 15,
+        FoldRefusal::NoLasso => 16,
+    }
+}
+
+pub fn place_of(refusal: FoldRefusal) -> u32
+    ensures { λ r. ⌜ r ≡ foldRefusalIn refusal .place ⌝ }
+{
+    match refusal {
+        FoldRefusal::File(file) => accept::place_of(file),
+        FoldRefusal::Rows => 0,
+        FoldRefusal::Registers => 0,
+        FoldRefusal::Phase { row } => row,
+        FoldRefusal::Wish => 0,
+        FoldRefusal::Memory => 0,
+        FoldRefusal::NoLasso => 0,
+    }
 }
 
 // Stem, cycle, phase count, used generators, and the row counts before and after.

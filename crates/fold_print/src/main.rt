@@ -5,7 +5,6 @@ use fold_core::Folding;
 
 mod line;
 mod print;
-mod refusal;
 
 const WISH: u32 = 0;
 

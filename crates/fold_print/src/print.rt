@@ -26,8 +26,8 @@ pub fn print_numbers(numbers: FoldNumbers) {
 }
 
 pub fn print_refusal(refusal: FoldRefusal) {
-    let number = crate::refusal::number_of(refusal);
-    let place = crate::refusal::place_of(refusal);
+    let number = fold_core::number_of(refusal);
+    let place = fold_core::place_of(refusal);
     let mut text = [0u8; LINE_BYTES];
     let line: &mut [u8] = &mut text;
     let mut at = append_named(line, 0, b"refused ", number);

@@ -8,12 +8,12 @@ use lib.ListN.{length}
 use borrow.Author.Tests.{ne-eqb}
 use Rattle.netlist.specs.Limits.{mostRows}
 use Rattle.netlist.specs.FileFormat.{netlistOf}
-use Rattle.questions.specs.Questions.{noRefusal, fileRefusal, Counts, countsOf}
+use Rattle.questions.specs.Questions.{Refusal, noRefusal, fileRefusal, Counts, countsOf}
 use Rattle.blockfile.specs.CountCode.{countsIn, EachAtMost}
 use Rattle.blockfile.proofs.ReadyLaws.{ready-of}
 use Rattle.blockfile.proofs.CountLaws.{counts-small, most-more, counts-all}
 use Rattle.blockfile.specs.declared.count.Counts as code
-use Rattle.accept.specs.Refusals.{numberOf, placeOf, refusalIn, acceptRefusal}
+use Rattle.accept.specs.Refusals.{numberOf, refusalIn, acceptRefusal}
 use Rattle.accept.specs.declared.FileRefusal.{FileRefusal}
 use Rattle.accept.specs.declared.Acceptance.{Acceptance}
 use Rattle.accept.specs.declared.Acceptance.the-variants.{Refused}
@@ -29,8 +29,8 @@ use Rattle.phasefold.specs.declared.CountAnswer.the-variants as count
 use Rattle.phasefold.specs.declared.foreign.PfRefusal.{PfRefusal}
 use Rattle.phasefold.specs.declared.foreign.PfCounts.{PfCounts}
 
-pub file-flat : (q : FileRefusal) (n p : ℕ) → n ≡ numberOf q → p ≡ placeOf q → _≡_ {A = PfRefusal} (record { number = n; place = p }) (refusalNumbers (refusalIn q))
-file-flat q n p en ep = rw (en, ep) refl
+pub flat-by : (q : Refusal) (n p : ℕ) → n ≡ q .number → p ≡ q .place → _≡_ {A = PfRefusal} (record { number = n; place = p }) (refusalNumbers q)
+flat-by q n p en ep = rw (en, ep) refl
 
 module _ (file : List ℕ) (a : Acceptance) (C : Checked file a) where
   pub check-flat : (r : PfRefusal) → r ≡ refusalNumbers (acceptRefusal a) → r ≡ refusalNumbers (fileRefusal file)

@@ -38,8 +38,8 @@ pub struct PfCounts {
 fn file_numbers(refusal: FileRefusal) -> PfRefusal
     ensures { λ r. ⌜ r ≡ refusalNumbers (refusalIn refusal) ⌝ }
 {
-    let number = super::number_in(refusal);
-    let place = super::place_in(refusal);
+    let number = accept::number_of(refusal);
+    let place = accept::place_of(refusal);
     PfRefusal {
         number: number,
         place: place,
@@ -160,32 +160,11 @@ pub struct PfFolded {
 fn fold_numbers(refusal: FoldRefusal) -> PfRefusal
     ensures { λ r. ⌜ r ≡ refusalNumbers (foldRefusalIn refusal) ⌝ }
 {
-    match refusal {
-        FoldRefusal::File(file) => file_numbers(file),
-        FoldRefusal::Rows => PfRefusal {
-            number: 11,
-            place: 0,
-        },
-        FoldRefusal::Registers => PfRefusal {
-            number: 12,
-            place: 0,
-        },
-        FoldRefusal::Phase { row } => PfRefusal {
-            number: 13,
-            place: row,
-        },
-        FoldRefusal::Wish => PfRefusal {
-            number: 14,
-            place: 0,
-        },
-        FoldRefusal::Memory => PfRefusal {
-            number: 15,
-            place: 0,
-        },
-        FoldRefusal::NoLasso => PfRefusal {
-            number: 16,
-            place: 0,
-        },
+    let number = fold_core::number_of(refusal);
+    let place = fold_core::place_of(refusal);
+    PfRefusal {
+        number: number,
+        place: place,
     }
 }
 

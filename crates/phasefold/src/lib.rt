@@ -1,6 +1,4 @@
 // The phase folder's public library: Check, Count, Show, Run and Fold.
-ghost use mathlib.Core.Path.{_≡_};
-ghost use Rattle.accept.specs.Refusals.{numberOf, placeOf};
 ghost use Rattle.phasefold.specs.Outcomes.{Checked, Counted, Shown};
 ghost use Rattle.phasefold.specs.FoldedOutcome.{Folded};
 ghost use Rattle.run_core.specs.Ran.{Ran};
@@ -37,41 +35,6 @@ pub fn count(file: &[u8]) -> CountAnswer
     }
 }
 
-// The paper's number of a file's refusal, and its place.
-fn number_in(refusal: FileRefusal) -> u32
-    ensures { λ r. ⌜ r ≡ numberOf refusal ⌝ }
-{
-    match refusal {
-        FileRefusal::Length => 1,
-        FileRefusal::Sum { block: _ } => 2,
-        FileRefusal::Header { block: _ } => 3,
-        FileRefusal::RowCount { block: _ } => 4,
-        FileRefusal::Unused { block: _ } => 5,
-        FileRefusal::Kind { row: _ } => 6,
-        FileRefusal::Field { row: _ } => 7,
-        FileRefusal::Label { row: _ } => 8,
-        FileRefusal::Literal { row: _ } => 9,
-        FileRefusal::NoOutput => 10,
-    }
-}
-
-fn place_in(refusal: FileRefusal) -> u32
-    ensures { λ r. ⌜ r ≡ placeOf refusal ⌝ }
-{
-    match refusal {
-        FileRefusal::Length => 0,
-        FileRefusal::Sum { block } => block,
-        FileRefusal::Header { block } => block,
-        FileRefusal::RowCount { block } => block,
-        FileRefusal::Unused { block } => block,
-        FileRefusal::Kind { row } => row,
-        FileRefusal::Field { row } => row,
-        FileRefusal::Label { row } => row,
-        FileRefusal::Literal { row } => row,
-        FileRefusal::NoOutput => 0,
-    }
-}
-
 // The row part of a block, in the caller's own file.
 pub fn show<'a>(file: &'a [u8], block: u32, number: &mut u32, place: &mut u32) -> &'a [u8]
     ensures { λ r. ⌜ Shown (now (file .entry)) block (now r) (now (number .exit)) (now (place .exit)) ⌝ }
@@ -93,8 +56,8 @@ pub fn show<'a>(file: &'a [u8], block: u32, number: &mut u32, place: &mut u32) -
             }
         }
         Acceptance::Refused(refusal) => {
-            *number = number_in(refusal);
-            *place = place_in(refusal);
+            *number = accept::number_of(refusal);
+            *place = accept::place_of(refusal);
             &file[0..0]
         }
     }

@@ -56,12 +56,12 @@ enum-known-refusal : tie.Need-enum-known-refusal
 enum-known-refusal c = search needs
 
 -- src/lib.rt:89:23
-number-in-requires : tie.Need-number-in-requires
-number-in-requires c κs = search needs
+number-of-requires : tie.Need-number-of-requires
+number-of-requires c κs = search needs
 
 -- src/lib.rt:90:22
-place-in-requires : tie.Need-place-in-requires
-place-in-requires c κs = search needs
+place-of-requires : tie.Need-place-of-requires
+place-of-requires c κs = search needs
 
 -- src/lib.rt:91:13
 sub-result-3 : tie.Need-sub-result-3
@@ -85,7 +85,7 @@ returns-2 c = block-missing (c .before .before .before .before .before .before .
 
 -- src/lib.rt:69:1
 returns-3 : tie.Need-returns-3
-returns-3 c = file-refused (c .before .before .before .before .before .before .before .before .args .file .now) (c .before .before .before .before .before .before .before .before .args .block) (c .before .before .before .before .before .before .accept .result) (c .before .before .before .before .before .before .accept .ensures) (c .before .before .before .before .refusal .given .0 .0) (c .before .before .number-in .result) (c .before .place-in .result) (c .before .before .before .before .refusal .given .1) (c .before .before .number-in .ensures) (c .before .place-in .ensures)
+returns-3 c = file-refused (c .before .before .before .before .before .before .before .before .args .file .now) (c .before .before .before .before .before .before .before .before .args .block) (c .before .before .before .before .before .before .accept .result) (c .before .before .before .before .before .before .accept .ensures) (c .before .before .before .before .refusal .given .0 .0) (c .before .before .number-of .result) (c .before .place-of .result) (c .before .before .before .before .refusal .given .1) (c .before .before .number-of .ensures) (c .before .place-of .ensures)
 
 pub show-spec : {M : Type 1} → statement M
 show-spec =
@@ -103,8 +103,8 @@ show-spec =
     part-result-start-2
     part-result-end-2
     enum-known-refusal
-    number-in-requires
-    place-in-requires
+    number-of-requires
+    place-of-requires
     sub-result-3
     part-result-start-3
     part-result-end-3

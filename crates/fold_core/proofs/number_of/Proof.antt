@@ -1,14 +1,14 @@
--- `refusal::number_of` meets its contract, refusal by refusal.
+-- `fold_core::number_of` meets its contract, refusal by refusal.
 -- Assumes nothing.
 use borrow.Author.Needs.{needs}
-use Rattle.fold_print.proofs.refusal.number_of.Statement.{statement}
-use Rattle.fold_print.proofs.refusal.number_of.Tie as tie
+use Rattle.fold_core.proofs.number_of.Statement.{statement}
+use Rattle.fold_core.proofs.number_of.Tie as tie
 
 enum-known-refusal : tie.Need-enum-known-refusal
 enum-known-refusal c = search needs
 
-file-number-requires : tie.Need-file-number-requires
-file-number-requires c κs = search needs
+number-of-requires : tie.Need-number-of-requires
+number-of-requires c κs = search needs
 
 enum-told : tie.Need-enum-told
 enum-told c = search needs
@@ -54,7 +54,7 @@ number-of-spec =
     tie.close
     (tie.spec
     enum-known-refusal
-    file-number-requires
+    number-of-requires
     enum-told
     enum-told-2
     enum-told-3
