@@ -8,12 +8,12 @@ use lib.ListN.{set}
 use lib.Seq.{sets}
 use Rattle.memory.specs.Fields.{byteAt, u16At, u16Bytes}
 use Rattle.memory.proofs.BufferLaws.{sets-join}
-use Rattle.netlist.specs.FileFormat.{rowOffset, readFields, fieldBytes}
-use Rattle.blockfile.specs.RowCode.{fieldsIn, Small}
+use Rattle.netlist.specs.FileFormat.{fieldBytes}
+use Rattle.blockfile.specs.RowCode.{fieldsIn, fieldsFrom, Small}
 
-pub row-read : (f : List ℕ) (row place a b c : ℕ) → place ≡ rowOffset row → (a ≡ u16At f (place + 2)) × (a < 2 ^ 16) → (b ≡ u16At f (place + 4)) × (b < 2 ^ 16) → (c ≡ u16At f (place + 6)) × (c < 2 ^ 16)
-    → (fieldsIn (record { kind = byteAt f place; reset = byteAt f (place + 1); a = a; b = b; c = c }) ≡ readFields f row) × Small (record { kind = byteAt f place; reset = byteAt f (place + 1); a = a; b = b; c = c })
-row-read f row place a b c p x y z = (rw (x .0, y .0, z .0, p), record { a-small = x .1; b-small = y .1; c-small = z .1 })
+pub row-read : (f : List ℕ) (place a b c : ℕ) → (a ≡ u16At f (place + 2)) × (a < 2 ^ 16) → (b ≡ u16At f (place + 4)) × (b < 2 ^ 16) → (c ≡ u16At f (place + 6)) × (c < 2 ^ 16)
+    → (fieldsIn (record { kind = byteAt f place; reset = byteAt f (place + 1); a = a; b = b; c = c }) ≡ fieldsFrom f place) × Small (record { kind = byteAt f place; reset = byteAt f (place + 1); a = a; b = b; c = c })
+row-read f place a b c x y z = (rw (x .0, y .0, z .0), record { a-small = x .1; b-small = y .1; c-small = z .1 })
 
 -- The bytes written one after the other.
 pub row-written : (f f₁ f₂ f₃ : List ℕ) (q k r a b c : ℕ) → f₁ ≡ sets (set (set f q k) (q + 1) r) (q + 2) (u16Bytes a) → f₂ ≡ sets f₁ (q + 4) (u16Bytes b) → f₃ ≡ sets f₂ (q + 6) (u16Bytes c)

@@ -1,11 +1,17 @@
 -- The code's row fields as the model's.
 -- Assumes nothing.
-use Prim.Native.Nat.{_<_, _^_}
+use Prim.Native.Nat.{ℕ, _+_, _<_, _^_}
+use mathlib.Core.List.{List}
+use Rattle.memory.specs.Fields.{byteAt, u16At}
 use Rattle.netlist.specs.Rows.{RowFields}
 use Rattle.blockfile.specs.declared.Fields.{Fields}
 
 abbrev pub fieldsIn : Fields → RowFields
 fieldsIn w = record { kind = w .kind; reset = w .reset; a = w .a; b = w .b; c = w .c }
+
+-- The fields in the eight bytes from place p on.
+abbrev pub fieldsFrom : List ℕ → ℕ → RowFields
+fieldsFrom f p = record { kind = byteAt f p; reset = byteAt f (p + 1); a = u16At f (p + 2); b = u16At f (p + 4); c = u16At f (p + 6) }
 
 -- Each of the three fields has 16 bits.
 pub record Small (w : Fields) : Type 0 where

@@ -7,7 +7,7 @@ ghost use lib.Seq.{sets};
 ghost use Rattle.memory.specs.Fields.{u16At};
 ghost use Rattle.netlist.specs.Limits.{mostRows};
 ghost use Rattle.netlist.specs.FileFormat.{rowOffset, readFields, fieldBytes};
-ghost use Rattle.blockfile.specs.RowCode.{fieldsIn, Small};
+ghost use Rattle.blockfile.specs.RowCode.{fieldsIn, fieldsFrom, Small};
 
 pub mod blocks;
 pub mod count;
@@ -44,11 +44,11 @@ pub fn field_at(file: &[u8], at: usize) -> usize
     memory::read_u16(file, at) as usize
 }
 
-pub fn read_row(file: &[u8], row: usize) -> Fields
-    requires { ⌜ (row < mostRows) × (rowOffset row + 8 ≤ length (now file)) ⌝ }
-    ensures { λ r. ⌜ (fieldsIn r ≡ readFields (now (file .entry)) row) × Small r ⌝ }
+// The fields in the eight bytes from `place` on.
+pub fn read_at(file: &[u8], place: usize) -> Fields
+    requires { ⌜ place + 8 ≤ length (now file) ⌝ }
+    ensures { λ r. ⌜ (fieldsIn r ≡ fieldsFrom (now (file .entry)) place) × Small r ⌝ }
 {
-    let place = row_place(row);
     let second = place + 1;
     let at_a = place + 2;
     let at_b = place + 4;
@@ -65,6 +65,14 @@ pub fn read_row(file: &[u8], row: usize) -> Fields
         b: b,
         c: c,
     }
+}
+
+pub fn read_row(file: &[u8], row: usize) -> Fields
+    requires { ⌜ (row < mostRows) × (rowOffset row + 8 ≤ length (now file)) ⌝ }
+    ensures { λ r. ⌜ (fieldsIn r ≡ readFields (now (file .entry)) row) × Small r ⌝ }
+{
+    let place = row_place(row);
+    read_at(file, place)
 }
 
 pub fn write_row(buffer: &mut [u8], row: usize, fields: Fields)

@@ -7,21 +7,20 @@ use mathlib.Core.Option.{Option, none, some}
 use native.Mathlib.Omega.{arith}
 use lib.ListN.{length}
 use Rattle.memory.specs.Fields.{byteAt}
-use Rattle.netlist.specs.Limits.{mostPhases, mostOriginalRows, foldWorkBytes, foldClockEntries}
+use Rattle.netlist.specs.Limits.{mostPhases, mostOriginalRows, foldWorkBytes}
 use Rattle.netlist.specs.Rows.{Row}
 use Rattle.lasso.specs.LassoSearch.{Lasso, findLasso}
 use Rattle.lasso.specs.Generators.{periodsOf, usedCount, phaseCount, clockValue}
 use Rattle.lasso.specs.ClockEntries.{clockEntries}
 use Rattle.lasso.proofs.PhaseCountLaws.{phases-pos, phases-le}
-use Rattle.lasso_finder.specs.WorkMap.{knownPlace, knownIn, entryPlace, entriesIn}
+use Rattle.lasso_finder.specs.WorkMap.{knownPlace, knownIn, entriesIn}
 use Rattle.lasso_finder.specs.StateMap.{statePlace, valuePlace, Kept}
 use Rattle.lasso_finder.specs.Outcome.{WorkReady, phasesOf, analysisOf, Analysed}
-use Rattle.lasso_finder.specs.Stages.{repeatOf, LassoDone, lassoOf, lassoIn, Lassoed, PeriodPart, periodBytes, knownBytes, KnownPart, KnownRegisters, EntryPart}
+use Rattle.lasso_finder.specs.Stages.{repeatOf, LassoDone, lassoOf, lassoIn, Lassoed, PeriodPart, periodBytes, KnownPart, KnownRegisters, EntryPart}
 use Rattle.lasso_finder.specs.declared.search.Repeat.{Repeat}
 use Rattle.lasso_finder.specs.declared.search.Repeat.the-variants.{Found as AtState, Never}
 use Rattle.lasso_finder.specs.declared.Analysis.{Analysis}
 use Rattle.lasso_finder.specs.declared.Analysis.the-variants.{NoLasso, Found}
-use Rattle.lasso_finder.specs.declared.Clocks.{Clocks}
 use Rattle.lasso_finder.proofs.FrameLaws.{kept-wider, kept-join}
 use Rattle.lasso_finder.proofs.CountLaws.{phases-same}
 use Rattle.lasso_finder.proofs.KnownLaws.{known-is}

@@ -5,7 +5,7 @@ use mathlib.Core.Path.{_≡_, refl, sym, ap, _∙_}
 use mathlib.Core.List.{List, [], _∷_, _++_}
 use native.Mathlib.Omega.{arith}
 use native.Mathlib.Decide.{decLt, ℕ-discrete}
-use native.Mathlib.Nat.{add-comm, mul-assoc, mul-comm, zero-div, div-eq-of-lt, mod-eq-of-lt, add-mul-div-right, add-mul-mod-self-right, pow-le-pow-right, mul-le-mul-right}
+use native.Mathlib.Nat.{add-comm, mul-assoc, zero-div, div-eq-of-lt, mod-eq-of-lt, add-mul-div-right, add-mul-mod-self-right, pow-le-pow-right, mul-le-mul-right}
 use lib.Arith.{digits-div}
 use lib.Pow.{pow-pos, pow-add}
 use lib.ListN.{length, getD, set, length-append, List·getD-append, List·getD-eq-default}

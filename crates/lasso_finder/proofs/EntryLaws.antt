@@ -1,29 +1,27 @@
 -- The clock entries: what is put is read again, the entries before it stay, and all of them are the definition's.
 -- Assumes nothing.
-use Prim.Native.Nat.{ℕ, zero, suc, _+_, _-_, _*_, _<_, _≤_, _/_, _%_, _^_}
+use Prim.Native.Nat.{ℕ, zero, suc, _+_, _<_, _≤_, _/_, _%_, _^_}
 use mathlib.Core.Path.{_≡_, refl, sym, ap, ap₂, _∙_, subst}
-use mathlib.Core.Bool.{Bool, true, false, cond, true≢false, false≢true}
+use mathlib.Core.Bool.{Bool, true, false, cond, true≢false}
 use mathlib.Core.List.{List, [], _∷_, _++_, append-nil}
 use native.Mathlib.Omega.{arith}
 use native.Mathlib.Numerals.{add-one}
-use native.Mathlib.Decide.{decLt}
 use native.Mathlib.Nat.{div-one, div-div-eq-div-mul, div-eq-of-lt, pow-suc, zero-add, add-assoc, add-zero}
 use borrow.Author.Tests.{eq-eqb, ne-eqb, eqb-true}
 use lib.Dec.{eqb}
 use lib.Count.{ones, ones-step, ones-le}
-use lib.ListN.{length, getD, set}
+use lib.ListN.{length, set}
 use lib.Seq.{sets}
-use Rattle.memory.specs.Lists.{joinBelow, tabulate, countIf}
-use Rattle.memory.specs.Fields.{IsBytes, byteAt, u16At, u32At, u16Bytes, u32Bytes}
-use Rattle.memory.proofs.TestLaws.{cond-case}
+use Rattle.memory.specs.Lists.{joinBelow, tabulate}
+use Rattle.memory.specs.Fields.{IsBytes, byteAt, u16Bytes, u32Bytes}
 use Rattle.memory.proofs.ListLaws.{tabulate-length}
 use Rattle.memory.proofs.FieldLaws.{u16-read, u32-read}
 use Rattle.memory.proofs.BufferLaws.{sets-join}
-use Rattle.netlist.specs.Limits.{mostPhases, mostOriginalRows, mostOriginalRegisters, foldWorkBytes, foldClockEntries}
+use Rattle.netlist.specs.Limits.{mostPhases, foldWorkBytes, foldClockEntries}
 use Rattle.netlist.specs.Rows.{Row, rowAt, labelOf, isRegister, decodeRow}
 use Rattle.netlist.specs.FileFormat.{readFields, netlistOf}
 use Rattle.netlist.proofs.FileLaws.{file-labels}
-use Rattle.lasso.specs.Generators.{periodOf, periodsOf, isUsed, usedCount, clockValue}
+use Rattle.lasso.specs.Generators.{periodsOf, isUsed, usedCount, clockValue}
 use Rattle.lasso.specs.ClockEntries.{ClockEntry, clockWord, bitsSet, clockEntry, clockEntries}
 use Rattle.lasso.proofs.ClockLaws.{word-lt, entries-count}
 use Rattle.lasso.proofs.GeneratorLaws.{periods-length}
@@ -32,7 +30,7 @@ use Rattle.blockfile.specs.declared.Fields.{Fields}
 use Rattle.lasso_finder.specs.WorkMap.{knownPlace, entryPlace, entryIn, entriesIn}
 use Rattle.lasso_finder.specs.StateMap.{Ready, Kept, registersBefore, AtRow}
 use Rattle.lasso_finder.specs.Stages.{lassoIn, periodAt, knownBytes, KnownPart, entryBytes, KnownRegisters, EntryReady, entryPut, entryFrom, entriesFrom, EntryPart}
-use Rattle.lasso_finder.proofs.FrameLaws.{kept-none, kept-at, kept-join, kept-sets, sets-at}
+use Rattle.lasso_finder.proofs.FrameLaws.{kept-none, kept-join, kept-sets, sets-at}
 use Rattle.lasso_finder.proofs.RegisterLaws.{before-step, before-lt, before-le}
 use Rattle.lasso_finder.proofs.StepLaws.{row-within, register-is, register-at}
 use Rattle.lasso_finder.proofs.KnownLaws.{known-first, is-register, positive}

@@ -1,14 +1,15 @@
 -- The memory but for a part of it, and a run of bytes put at a place.
 -- Assumes nothing.
-use Prim.Native.Nat.{ℕ, zero, suc, _+_, _<_, _≤_}
-use mathlib.Core.Path.{_≡_, refl, ap, _∙_}
+use Prim.Native.Nat.{ℕ, zero, suc, _+_, _<_, _≤_, _^_}
+use mathlib.Core.Path.{_≡_, refl, sym, ap, _∙_}
 use mathlib.Core.List.{List, [], _∷_}
 use native.Mathlib.Omega.{arith}
 use native.Mathlib.Decide.{decLt}
 use native.Mathlib.Nat.{add-zero}
 use lib.ListN.{length, set, length-set}
 use lib.Seq.{sets, getD-set-same, getD-set-other}
-use Rattle.memory.specs.Fields.{byteAt}
+use Rattle.memory.specs.Fields.{byteAt, u16At, u16Bytes}
+use Rattle.memory.proofs.FieldLaws.{u16-read}
 use Rattle.lasso_finder.specs.StateMap.{Kept}
 
 -- ---- bytes that stay
@@ -28,6 +29,9 @@ kept-at {lo} {hi} K x n = elim (decLt x lo) [
   | yes h ↦ K .under x h
   | no h ↦ elim (decLt x hi) [ yes k ↦ absurd (n (omega arith) k) | no k ↦ K .over x (omega arith) ]
 ]
+
+pub u16-kept : {lo hi : ℕ} {w w′ : List ℕ} → Kept lo hi w w′ → (p : ℕ) → ((x : ℕ) → p ≤ x → x < p + 2 → lo ≤ x → x < hi → ⊥) → u16At w′ p ≡ u16At w p
+u16-kept K p n = rw (kept-at K p (n p (omega arith) (omega arith)), kept-at K (p + 1) (n (p + 1) (omega arith) (omega arith))) refl
 
 pub kept-wider : (lo hi : ℕ) {a b : ℕ} {w w′ : List ℕ} → Kept a b w w′ → lo ≤ a → b ≤ hi → Kept lo hi w w′
 kept-wider lo hi K a b = record { long = K .long; under = λ x h. K .under x (omega arith); over = λ x h. K .over x (omega arith) }
@@ -56,3 +60,9 @@ sets-at (v ∷ vs) l i (suc d) h k =
     let e : i + suc d ≡ suc i + d = omega arith in
     let n = kept-set i (suc i) i v l (omega arith) (omega arith) .long in
     ap (byteAt (sets (set l i v) (suc i) vs)) e ∙ sets-at vs (set l i v) (suc i) d (omega arith) (omega arith)
+
+pub u16-back : (w : List ℕ) (p v : ℕ) → v < 2 ^ 16 → p + 2 ≤ length w → u16At (sets w p (u16Bytes v)) p ≡ v
+u16-back w p v h room =
+    u16-read (sets w p (u16Bytes v)) p v h
+    (ap (byteAt (sets w p (u16Bytes v))) (sym (add-zero p)) ∙ sets-at (u16Bytes v) w p 0 (omega arith) room)
+    (sets-at (u16Bytes v) w p 1 (omega arith) room)

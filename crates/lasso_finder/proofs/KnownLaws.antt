@@ -1,25 +1,25 @@
 -- What is known of each row in each phase: the two bytes that are put are the definition's, and they are read as it says.
 -- Assumes nothing.
-use Prim.Native.Nat.{ℕ, zero, suc, _+_, _-_, _*_, _<_, _≤_, _/_, _%_, _^_}
+use Prim.Native.Nat.{ℕ, zero, suc, _+_, _*_, _<_, _≤_, _%_, _^_}
 use mathlib.Core.Path.{_≡_, refl, sym, ap, ap₂, _∙_, subst}
-use mathlib.Core.Bool.{Bool, true, false, cond, _&&_, true≢false, false≢true}
+use mathlib.Core.Bool.{Bool, true, false, cond, true≢false, false≢true}
 use mathlib.Core.List.{List, [], _∷_}
 use native.Mathlib.Omega.{arith}
 use native.Mathlib.Numerals.{add-one}
 use native.Mathlib.Decide.{decLt}
 use native.Mathlib.Nat.{add-zero, mod-lt, mul-le-mul-right, pow-le-pow-right}
-use borrow.Author.Tests.{eqb-true, ne-eqb, ltb-true, le-leb}
+use borrow.Author.Tests.{ne-eqb, ltb-true, le-leb}
 use lib.Dec.{eqb, ltb}
 use lib.Pow.{shl-exact}
-use lib.ListN.{length, getD, set}
-use lib.Seq.{sets, getD-set-same}
-use Rattle.memory.specs.Lists.{allBelow, tabulate, countIf}
+use lib.ListN.{length}
+use lib.Seq.{sets}
+use Rattle.memory.specs.Lists.{countIf}
 use Rattle.memory.specs.Fields.{byteAt}
 use Rattle.memory.proofs.TestLaws.{and-true, last-or, cond-case}
 use Rattle.memory.proofs.ListLaws.{allBelow-at, tabulate-at}
 use Rattle.ternary.specs.Ternary.{Ternary, lo, hi, X, codeOf, valueOf, isKnown}
 use Rattle.ternary.proofs.RuleLaws.{value-of-code}
-use Rattle.netlist.specs.Limits.{mostPhases, mostOriginalRows, mostOriginalRegisters, foldWorkBytes, lastState}
+use Rattle.netlist.specs.Limits.{mostPhases, mostOriginalRows, mostOriginalRegisters}
 use Rattle.netlist.specs.Rows.{Row, rowAt, isRegister}
 use Rattle.netlist.specs.FileFormat.{netlistOf}
 use Rattle.lasso.specs.Generators.{stateValue, isGenerator, periodOf, periodsOf, isUsed, clockValue}
@@ -27,12 +27,12 @@ use Rattle.lasso.specs.ClockEntries.{bitOf, clockWord}
 use Rattle.lasso.proofs.GeneratorLaws.{period-other, period-is, generator-le}
 use Rattle.lasso.proofs.ClockLaws.{word-lt, word-bit}
 use Rattle.lasso_finder.specs.WorkMap.{knownPlace, knownIn}
-use Rattle.lasso_finder.specs.StateMap.{statePlace, valuePlace, Kept, codeAt, stateBytes, registersBefore, stateCodes, AtRow}
-use Rattle.lasso_finder.specs.Stages.{lassoIn, Lassoed, smallPeriod, PeriodPart, phaseValue, WordReady, periodAt, knownBytes, KnownPart}
-use Rattle.lasso_finder.proofs.FrameLaws.{kept-at, kept-sets, sets-at}
+use Rattle.lasso_finder.specs.StateMap.{statePlace, valuePlace, Kept, codeAt, registersBefore, stateCodes, AtRow}
+use Rattle.lasso_finder.specs.Stages.{lassoIn, smallPeriod, PeriodPart, phaseValue, WordReady, periodAt, knownBytes, KnownPart}
+use Rattle.lasso_finder.proofs.FrameLaws.{kept-sets, sets-at}
 use Rattle.lasso_finder.proofs.CodeLaws.{packed-kept}
 use Rattle.lasso_finder.proofs.RegisterLaws.{before-lt}
-use Rattle.lasso_finder.proofs.StepLaws.{place-early, place-within, row-within, row-small}
+use Rattle.lasso_finder.proofs.StepLaws.{place-early, place-within, row-small}
 use Rattle.lasso_finder.proofs.PeriodLaws.{is-lasso, lasso-short, lasso-code}
 use Rattle.lasso_finder.proofs.CountLaws.{used-above, used-small}
 
@@ -77,9 +77,6 @@ sum-small w b k h l m = omega (arith, power-small k mostPhases (omega arith) (om
 module _ {w : List ℕ} {j p n : ℕ} (R : WordReady w j p n) (k : ℕ) where
   pub phase-less : k % p < mostPhases
   phase-less = let q = R .period in let a = q .0 in let b = q .1 in omega (arith, mod-lt k a)
-
-  pub phase-asks : (16384 + 64 * (k % p) ≤ statePlace lastState) × ((j < mostOriginalRegisters) × (foldWorkBytes ≤ length w))
-  phase-asks = let l = phase-less in (omega arith, (R .register, R .room))
 
   pub phase-read : k < n → (x : ℕ) → x ≡ codeAt w (16384 + 64 * (k % p)) j → (phaseValue w j p k ≡ valueOf x) × (x < 2)
   phase-read h x e =

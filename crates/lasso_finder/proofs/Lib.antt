@@ -4,6 +4,8 @@ pub mod CodeLaws
 pub mod RegisterLaws
 pub mod StateLaws
 pub mod StepLaws
+pub mod NextLaws
+pub mod BlockLaws
 pub mod WordLaws
 pub mod SearchLaws
 pub mod PeriodLaws

@@ -1,15 +1,15 @@
 -- The period that the memory's states give a register is the definition's, if it is 8 at most.
 -- Assumes nothing.
-use Prim.Native.Nat.{ℕ, zero, suc, _+_, _-_, _*_, _<_, _≤_, _/_, _%_}
-use mathlib.Core.Path.{_≡_, refl, sym, ap, ap₂, _∙_, subst}
+use Prim.Native.Nat.{ℕ, zero, suc, _+_, _*_, _<_, _≤_, _/_, _%_}
+use mathlib.Core.Path.{_≡_, refl, sym, ap, ap₂, _∙_}
 use mathlib.Core.Bool.{Bool, true, false, cond, _&&_, true≢false}
 use mathlib.Core.List.{List}
 use native.Mathlib.Omega.{arith}
 use native.Mathlib.Decide.{decLt}
 use native.Mathlib.Nat.{div-add-mod', mod-lt, mod-le, suc-mul}
-use borrow.Author.Tests.{eqb-true, eq-eqb, ne-eqb, lt-ltb, le-ltb, le-leb, lt-leb}
+use borrow.Author.Tests.{eqb-true, eq-eqb, lt-ltb, le-ltb, le-leb, lt-leb}
 use lib.Arith.{digits-mod}
-use lib.Dec.{eqb, ltb}
+use lib.Dec.{eqb}
 use lib.ListN.{length, set}
 use lib.Seq.{getD-set-same, getD-set-other}
 use Rattle.memory.specs.Lists.{allBelow, firstFrom, countIf}
@@ -20,14 +20,13 @@ use Rattle.ternary.specs.Ternary.{codeOf, equal3, isKnown}
 use Rattle.netlist.specs.Limits.{mostPhases, mostOriginalRows, mostOriginalRegisters, foldWorkBytes, lastState}
 use Rattle.netlist.specs.Rows.{Row, rowAt, decodeRow, isRegister}
 use Rattle.netlist.specs.FileFormat.{readFields, netlistOf}
-use Rattle.lasso.specs.LassoSearch.{Lasso, findLasso}
 use Rattle.lasso.specs.Generators.{stateValue, isGenerator, periodOf}
 use Rattle.lasso.proofs.LassoLaws.{IsLasso, lasso-is}
 use Rattle.lasso.proofs.GeneratorLaws.{period-other, period-is, period-none}
 use Rattle.blockfile.specs.RowCode.{fieldsIn}
 use Rattle.blockfile.specs.declared.Fields.{Fields}
-use Rattle.lasso_finder.specs.StateMap.{Ready, statePlace, valuePlace, Kept, codeAt, registersBefore, stateCodes, AtRow}
-use Rattle.lasso_finder.specs.Stages.{lassoIn, Lassoed, holdsAs, repeatsIn, generatorIn, smallPeriod, periodIn, PeriodPart}
+use Rattle.lasso_finder.specs.StateMap.{statePlace, valuePlace, codeAt, registersBefore, stateCodes, AtRow}
+use Rattle.lasso_finder.specs.Stages.{lassoIn, Lassoed, holdsAs, generatorIn, smallPeriod, periodIn, PeriodPart}
 use Rattle.lasso_finder.proofs.CodeLaws.{packed-at}
 use Rattle.lasso_finder.proofs.RegisterLaws.{before-lt, codes-at}
 use Rattle.lasso_finder.proofs.FrameLaws.{kept-set}

@@ -1,6 +1,6 @@
 -- Registers among the rows: their numbers, what they hold in a state, and the codes of a state.
 -- Assumes nothing.
-use Prim.Native.Nat.{ℕ, zero, suc, _+_, _<_, _≤_, _/_}
+use Prim.Native.Nat.{ℕ, zero, suc, _+_, _<_, _≤_}
 use mathlib.Core.Path.{_≡_, refl, sym, ap, ap₂, _∙_}
 use mathlib.Core.Bool.{Bool, true, false, cond, false≢true, true≢false}
 use mathlib.Core.List.{List, [], _∷_, _++_, append-nil}
@@ -14,13 +14,13 @@ use lib.Seq.{take-suc, take-length, getD-at}
 use Rattle.memory.specs.Lists.{countIf}
 use Rattle.memory.proofs.TestLaws.{last-or}
 use Rattle.memory.proofs.ListLaws.{count-last}
-use Rattle.ternary.specs.Ternary.{Ternary, lo, X, not3, codeOf, valueOf}
+use Rattle.ternary.specs.Ternary.{Ternary, lo, X, not3, codeOf}
 use Rattle.netlist.specs.Rows.{Row, constant, input, register, andGate, xorGate, muxGate, output, rowFromFields, rowAt, onRegister, isRegister}
 use Rattle.netlist.specs.Simulation.{Logic, ternaryLogic, rowValue, startBy, runState, ternaryState}
 use Rattle.netlist.proofs.WellFormed.{Ordered}
 use Rattle.netlist.proofs.SimulationLaws.{held, state-at, value-at}
 use Rattle.lasso.specs.Generators.{stateValue}
-use Rattle.lasso_finder.specs.StateMap.{registersBefore, stateCodes, stepValue}
+use Rattle.lasso_finder.specs.StateMap.{registersBefore, nextOf, stateCodes, stepValue}
 
 -- ---- rows by kind
 
@@ -53,6 +53,16 @@ on-other d f (andGate _ _) e = refl
 on-other d f (xorGate _ _) e = refl
 on-other d f (muxGate _ _ _) e = refl
 on-other d f (output _ _ _) e = refl
+
+-- What is said of a register's next-value literal.
+pub on-next {ℓ} : {A : Type ℓ} (d : A) (g : ℕ → A) (r : Row) → isRegister r ≡ true → onRegister d (λ s a l. g a) r ≡ g (nextOf r)
+on-next d g constant e = absurd (false≢true e)
+on-next d g (input _ _) e = absurd (false≢true e)
+on-next d g (register _ _ _) e = refl
+on-next d g (andGate _ _) e = absurd (false≢true e)
+on-next d g (xorGate _ _) e = absurd (false≢true e)
+on-next d g (muxGate _ _ _) e = absurd (false≢true e)
+on-next d g (output _ _ _) e = absurd (false≢true e)
 
 -- What a register would hold does not matter to another row.
 pub row-held : (L : Logic) (h h′ : L .Value) (i : ℕ → ℕ → L .Value) (w : ℕ → L .Value) (r : Row) → isRegister r ≡ false → rowValue L h i w r ≡ rowValue L h′ i w r
@@ -94,7 +104,14 @@ module _ (rows : List Row) where
   before-one : (i : ℕ) → i < length rows → isRegister (rowAt rows i) ≡ true → registersBefore rows (i + 1) ≡ registersBefore rows i + 1
   before-one i h r = before-step i h ∙ ap (λ (t : Bool). registersBefore rows i + cond t 1 0) r
 
-  before-less : (n i : ℕ) → n ≤ length rows → i < n → isRegister (rowAt rows i) ≡ true → registersBefore rows i < registersBefore rows n
+  -- The count after a register, and after another row.
+  pub before-yes : (i : ℕ) → i < length rows → isRegister (rowAt rows i) ≡ true → registersBefore rows (suc i) ≡ suc (registersBefore rows i)
+  before-yes i h r = sym (ap (registersBefore rows) (add-one i)) ∙ before-one i h r ∙ add-one (registersBefore rows i)
+
+  pub before-no : (i : ℕ) → i < length rows → isRegister (rowAt rows i) ≡ false → registersBefore rows (suc i) ≡ registersBefore rows i
+  before-no i h r = sym (ap (registersBefore rows) (add-one i)) ∙ before-step i h ∙ ap (λ (t : Bool). registersBefore rows i + cond t 1 0) r ∙ omega arith
+
+  pub before-less : (n i : ℕ) → n ≤ length rows → i < n → isRegister (rowAt rows i) ≡ true → registersBefore rows i < registersBefore rows n
   before-less n i h l r = omega (arith, before-one i (omega arith) r, before-mono n (i + 1) h (omega arith))
 
   pub before-lt : (i : ℕ) → i < length rows → isRegister (rowAt rows i) ≡ true → registersBefore rows i < countIf isRegister rows

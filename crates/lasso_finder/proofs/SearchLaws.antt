@@ -2,30 +2,30 @@
 -- Assumes nothing.
 use Prim.Native.Nat.{ℕ, zero, suc, _+_, _-_, _*_, _<_, _≤_, _/_}
 use mathlib.Core.Path.{_≡_, refl, sym, ap, _∙_, subst}
-use mathlib.Core.Bool.{Bool, true, false, cond, false≢true}
+use mathlib.Core.Bool.{Bool, true, false, false≢true}
 use mathlib.Core.List.{List, []}
-use mathlib.Core.Option.{Option, none, some, Option·some-injective}
+use mathlib.Core.Option.{none, some, Option·some-injective}
 use native.Mathlib.Omega.{arith}
 use native.Mathlib.Decide.{decLt}
 use borrow.Author.Tests.{lt-ltb, le-ltb, le-leb, lt-leb}
 use lib.Dec.{ltb}
 use lib.ListN.{length}
 use Rattle.memory.specs.Lists.{allBelow, firstFrom, countIf}
-use Rattle.memory.specs.Fields.{IsBytes, byteAt}
+use Rattle.memory.specs.Fields.{IsBytes}
 use Rattle.memory.proofs.TestLaws.{last-or}
 use Rattle.memory.proofs.ListLaws.{first-is, first-least, first-none}
-use Rattle.netlist.specs.Limits.{lastState}
+use Rattle.netlist.specs.Limits.{mostOriginalRegisters, lastState}
 use Rattle.netlist.specs.Rows.{Row, isRegister}
 use Rattle.netlist.specs.FileFormat.{netlistOf}
 use Rattle.lasso.specs.LassoSearch.{isRepeat, earlierEqual, firstRepeat, Lasso, findLasso}
 use Rattle.lasso_finder.specs.WorkMap.{knownPlace}
-use Rattle.lasso_finder.specs.StateMap.{Ready, statePlace, valuePlace, Kept, Packed, stateCodes, Stored, StatePart, Searched}
+use Rattle.lasso_finder.specs.StateMap.{Ready, statePlace, valuePlace, nextPlace, Kept, Packed, stateCodes, Stored, Started, Searched}
 use Rattle.lasso_finder.specs.Outcome.{WorkReady}
 use Rattle.lasso_finder.specs.Stages.{sameWord, repeatOf, LassoDone}
 use Rattle.lasso_finder.specs.declared.search.Repeat.the-variants.{Found, Never}
 use Rattle.lasso_finder.proofs.CodeLaws.{packed-none}
 use Rattle.lasso_finder.proofs.FrameLaws.{kept-none, kept-join}
-use Rattle.lasso_finder.proofs.StepLaws.{StateKept, place-within, packed-state}
+use Rattle.lasso_finder.proofs.StepLaws.{StartKept, place-within}
 use Rattle.lasso_finder.proofs.WordLaws.{same-states}
 
 -- The first number of which f holds.
@@ -80,33 +80,34 @@ pub record Sought (rows : List Row) (w₀ w : List ℕ) (m : ℕ) : Type 0 where
 zeros-packed : (w : List ℕ) → WorkReady w → (t : ℕ) → Packed w (statePlace t) []
 zeros-packed w R t = packed-none w (statePlace t) (λ k h. R .zero (statePlace t + k))
 
-pub start-part : (rows : List Row) (w : List ℕ) → WorkReady w → StatePart rows w 0 0
+pub start-part : (rows : List Row) (w : List ℕ) → WorkReady w → Started rows w 0
 unfolding stateCodes
 start-part rows w R = record {
   coded = record { room = R .room; code = λ x h. rw (R .zero (valuePlace x)) (omega arith) };
   part = zeros-packed w R 0;
-  values = λ u e. absurd (omega arith);
+  nexts = λ x h e. absurd (omega arith);
+  clear = λ t h l. zeros-packed w R t;
 }
 
-module _ {rows : List Row} {n : ℕ} {w w₁ : List ℕ} (count : n ≡ length rows) (R : WorkReady w) (K : StateKept 0 w w₁) where
-  pub sought-start : StatePart rows w₁ 0 n → Sought rows w₁ w₁ 1
-  sought-start P = record {
-    from = omega arith;
-    to = omega arith;
-    searched = record {
-      coded = P .coded;
-      stored = λ t h.
-          let e : 0 ≡ t = omega arith in
-          subst (Stored rows w₁) e (subst (λ (k : ℕ). Packed w₁ (statePlace 0) (stateCodes rows 0 k)) count (P .part));
-      clear = λ t h l. packed-state w w₁ 0 t [] (omega arith) l (λ (e : t ≡ 0). omega arith) K (zeros-packed w R t);
-    };
-    no-repeat = λ j a b. absurd (omega arith);
-    kept = kept-none (statePlace 0) (knownPlace 0) w₁;
-  }
+module _ {rows : List Row} {n : ℕ} {w w₁ : List ℕ} (count : n ≡ length rows) (K : StartKept w w₁) where
+  pub sought-start : Started rows w₁ n → Sought rows w₁ w₁ 1
+  sought-start P =
+      let P′ = subst (Started rows w₁) count P in record {
+        from = omega arith;
+        to = omega arith;
+        searched = record {
+          coded = P .coded;
+          stored = λ t h. (let e : 0 ≡ t = omega arith in subst (Stored rows w₁) e (P′ .part));
+          clear = P .clear;
+          nexts = P′ .nexts;
+        };
+        no-repeat = λ j a b. absurd (omega arith);
+        kept = kept-none (statePlace 0) (knownPlace 0) w₁;
+      }
 
   module _ {w₂ : List ℕ} {m : ℕ} (S : Sought rows w₁ w₂ m) where
-    all-kept : Kept (statePlace 0) (knownPlace 0) w w₂
-    all-kept = kept-join (statePlace 0) (knownPlace 0) w w₁ w₂ K (S .kept) (omega arith) (omega arith) (omega arith) (omega arith)
+    all-kept : StartKept w w₂
+    all-kept = kept-join (statePlace 0) (nextPlace mostOriginalRegisters) w w₁ w₂ K (S .kept) (omega arith) (omega arith) (omega arith) (omega arith)
 
     pub sought-never : lastState < m → LassoDone rows w w₂ Never
     sought-never h =
@@ -138,7 +139,7 @@ module _ {rows : List Row} {n : ℕ} {w w₁ : List ℕ} (count : n ≡ length r
                 let c : z ≡ record { stem = k; cycle = m - k } = Option·some-injective _ _ (sym f ∙ q) in
                 let b : z .stem + z .cycle ≡ m = ap (λ (y : Lasso). y .stem + y .cycle) c ∙ omega arith in
                 D .stored t (omega arith);
-            kept = kept-join (statePlace 0) (knownPlace 0) w w₂ w₃ all-kept L (omega arith) (omega arith) (omega arith) (omega arith);
+            kept = kept-join (statePlace 0) (nextPlace mostOriginalRegisters) w w₂ w₃ all-kept L (omega arith) (omega arith) (omega arith) (omega arith);
           }
 
 -- ---- the comparison of states k and m

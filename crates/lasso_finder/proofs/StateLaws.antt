@@ -1,22 +1,19 @@
 -- The memory's bytes as values of rows and as states of the three-valued run: each function's step from row to row.
 -- Assumes nothing.
-use Prim.Native.Nat.{ℕ, zero, suc, _+_, _-_, _*_, _<_, _≤_, _/_, _%_, _^_}
-use mathlib.Core.Path.{_≡_, refl, sym, ap, _∙_, subst}
-use mathlib.Core.Bool.{Bool, true, false, cond}
-use mathlib.Core.List.{List, [], _∷_, _++_}
+use Prim.Native.Nat.{ℕ, zero, suc, _<_, _≤_, _/_, _%_}
+use mathlib.Core.Path.{_≡_, refl, sym, ap, _∙_}
+use mathlib.Core.List.{List, []}
 use native.Mathlib.Omega.{arith}
-use lib.ListN.{length, getD, set}
+use lib.ListN.{length}
 use Rattle.memory.specs.Fields.{byteAt}
 use Rattle.ternary.specs.Ternary.{Ternary, X, not3, and3, xor3, mux3, codeOf, valueOf}
 use Rattle.ternary.proofs.RuleLaws.{value-of-code, code-below}
 use Rattle.netlist.specs.Limits.{mostOriginalRows, mostOriginalRegisters, foldWorkBytes, lastState}
-use Rattle.netlist.specs.Rows.{rowFromFields, decodeRow, isRegister}
-use Rattle.netlist.specs.Simulation.{ternaryLogic, rowValue}
+use Rattle.netlist.specs.Rows.{rowFromFields, isRegister}
+use Rattle.netlist.specs.Simulation.{ternaryLogic, complementIf, rowValue}
 use Rattle.netlist.proofs.WellFormed.{OperandsBelow}
-use Rattle.blockfile.specs.RowCode.{fieldsIn}
 use Rattle.blockfile.specs.declared.Fields.{Fields}
-use Rattle.lasso_finder.specs.StateMap.{statePlace, valuePlace, codeAt, valueIn, Coded, literalIn, RowReady, rowIn, nextIn}
-use Rattle.lasso_finder.proofs.RegisterLaws.{reset-code}
+use Rattle.lasso_finder.specs.StateMap.{statePlace, valuePlace, codeAt, valueIn, Coded, literalIn, RowReady, rowIn}
 
 -- ---- codes
 
@@ -35,17 +32,15 @@ is-code r v e = (e, rw e (code-below v))
 
 -- ---- a literal, and a gate of literals
 
-module _ (w : List ℕ) (l : ℕ) where
-  pub literal-plain : Coded w → l / 2 < mostOriginalRows → l % 2 ≡ 0 → IsCode (byteAt w (valuePlace (l / 2))) (literalIn w l)
-  literal-plain C h e = is-code _ (literalIn w l) (rw e (sym (code-of-value _ (C .code (l / 2) h))))
-
-  pub literal-inverse : (r : ℕ) → (l % 2 ≡ 0 → ⊥) → r ≡ codeOf (not3 (valueOf (byteAt w (valuePlace (l / 2))))) → IsCode r (literalIn w l)
-  literal-inverse r n h = let e : l % 2 ≡ 1 = omega (arith, odd (l % 2) n (omega arith)) in is-code r (literalIn w l) (rw e h)
-    where
-      odd : (b : ℕ) → (b ≡ 0 → ⊥) → b < 2 → b ≡ 1
-      odd zero n k = absurd (n refl)
-      odd (suc zero) n k = refl
-      odd (suc (suc b)) n k = absurd (omega arith)
+-- The XOR with 1 inverts, and that with 0 does not.
+pub literal-by : (w : List ℕ) (l r : ℕ) → r ≡ codeOf (xor3 (valueOf (l % 2)) (valueOf (byteAt w (valuePlace (l / 2))))) → IsCode r (literalIn w l)
+unfolding xor3
+literal-by w l r h = go (l % 2) (omega arith) h
+  where
+    go : (b : ℕ) → b < 2 → r ≡ codeOf (xor3 (valueOf b) (valueIn w (l / 2))) → IsCode r (complementIf ternaryLogic b (valueIn w (l / 2)))
+    go zero k e = is-code r (valueIn w (l / 2)) e
+    go (suc zero) k e = is-code r (not3 (valueIn w (l / 2))) e
+    go (suc (suc b)) k e = absurd (omega arith)
 
 pub gate-of-two : (g : Ternary → Ternary → Ternary) (a b : Ternary) (x y r : ℕ) → IsCode x a → IsCode y b → r ≡ codeOf (g (valueOf x) (valueOf y)) → r ≡ codeOf (g a b)
 gate-of-two g a b x y r p q h = h ∙ rw (p .0, q .0, value-of-code a, value-of-code b) refl
@@ -109,16 +104,3 @@ module _ (w : List ℕ) (r : Fields) (base j : ℕ) (R : RowReady w r base j) wh
       by-kind (suc (suc (suc (suc (suc zero))))) a b c d e f = absurd (e refl)
       by-kind (suc (suc (suc (suc (suc (suc zero)))))) a b c d e f = absurd (f refl)
       by-kind (suc (suc (suc (suc (suc (suc (suc k))))))) a b c d e f = refl
-
--- ---- a register's next code
-
-module _ (w : List ℕ) (r : Fields) (t : ℕ) where
-  pub next-reset : t ≡ 0 → r .reset ≤ 2 → IsCode (r .reset) (nextIn w r t)
-  next-reset e h = is-code (r .reset) (nextIn w r t) (rw e (reset-code (r .reset) h))
-
-  pub next-literal : (x : ℕ) → (t ≡ 0 → ⊥) → IsCode x (literalIn w (r .a)) → IsCode x (nextIn w r t)
-  next-literal x n h = subst (λ (u : ℕ). IsCode x (nextIn w r u)) (later t n) h
-    where
-      later : (t : ℕ) → (t ≡ 0 → ⊥) → suc (t - 1) ≡ t
-      later zero n = absurd (n refl)
-      later (suc t) n = omega arith

@@ -1,8 +1,8 @@
 -- One step of the three-valued run in the memory: the values row by row, the next state register by register, and what stays as it was.
 -- Assumes nothing.
-use Prim.Native.Nat.{ℕ, zero, suc, _+_, _-_, _*_, _<_, _≤_, _/_, _%_, _^_}
+use Prim.Native.Nat.{ℕ, zero, _+_, _*_, _<_, _≤_, _/_, _%_, _^_}
 use mathlib.Core.Path.{_≡_, refl, sym, ap, _∙_, subst}
-use mathlib.Core.Bool.{Bool, true, false, cond}
+use mathlib.Core.Bool.{Bool, true, false, cond, false≢true}
 use mathlib.Core.List.{List, [], _∷_, _++_}
 use native.Mathlib.Omega.{arith}
 use native.Mathlib.Decide.{decLt, ℕ-discrete}
@@ -10,27 +10,26 @@ use native.Mathlib.Nat.{mul-le-mul-right, pow-le-pow-right}
 use lib.Pow.{pow-add, shl-exact}
 use lib.Dec.{eqb}
 use borrow.Author.Tests.{eq-eqb, ne-eqb}
-use lib.ListN.{length, getD, set, length-set}
-use lib.Seq.{getD-set-same, getD-set-other}
-use Rattle.memory.specs.Fields.{IsBytes, byteAt}
+use lib.ListN.{length, set}
+use lib.Seq.{sets, getD-set-same, getD-set-other}
+use Rattle.memory.specs.Fields.{IsBytes, byteAt, u16Bytes}
 use Rattle.memory.proofs.TestLaws.{last-or}
 use Rattle.ternary.specs.Ternary.{Ternary, X, codeOf, valueOf}
 use Rattle.ternary.proofs.RuleLaws.{value-of-code, code-below}
 use Rattle.netlist.specs.Limits.{mostRows, mostOriginalRows, mostOriginalRegisters, foldWorkBytes, lastState}
-use Rattle.netlist.specs.Rows.{Row, register, rowFromFields, decodeRow, rowAt, onRegister, isRegister}
+use Rattle.netlist.specs.Rows.{Row, register, decodeRow, rowAt, onRegister, isRegister}
 use Rattle.netlist.specs.FileFormat.{rowOffset, readFields, netlistOf}
 use Rattle.netlist.specs.Simulation.{ternaryLogic, rowValue}
 use Rattle.netlist.proofs.WellFormed.{OperandsBelow}
-use Rattle.netlist.proofs.SimulationLaws.{literal-cong, row-cong}
+use Rattle.netlist.proofs.SimulationLaws.{row-cong}
 use Rattle.lasso.specs.Generators.{stateValue}
 use Rattle.blockfile.specs.RowCode.{fieldsIn}
 use Rattle.blockfile.specs.declared.Fields.{Fields}
-use Rattle.lasso_finder.specs.StateMap.{Ready, statePlace, valuePlace, Kept, codeAt, stateBytes, Packed, registersBefore, stateCodes, Stored, valueIn, stepValue, Valued, Coded, literalIn, RowReady, rowIn, NextReady, nextIn, AtRow, Evaluated, StatePart, Searched}
+use Rattle.lasso_finder.specs.StateMap.{statePlace, valuePlace, nextPlace, Kept, codeAt, stateBytes, Packed, registersBefore, stateCodes, valueIn, stepValue, Coded, RowReady, rowIn, AtRow, Evaluated, NextsListed, Started}
 use Rattle.lasso_finder.specs.WorkMap.{knownPlace}
-use Rattle.lasso_finder.proofs.FrameLaws.{kept-set, kept-at, kept-join}
+use Rattle.lasso_finder.proofs.FrameLaws.{kept-set, kept-at, kept-join, kept-sets, u16-kept, u16-back}
 use Rattle.lasso_finder.proofs.CodeLaws.{packed-at, packed-small, packed-more, packed-kept}
-use Rattle.lasso_finder.proofs.RegisterLaws.{kind-register, register-row, row-held, before-step, before-le, before-lt, codes-register, codes-other, codes-length, codes-at, state-held, step-value}
-use Rattle.lasso_finder.proofs.StateLaws.{IsCode}
+use Rattle.lasso_finder.proofs.RegisterLaws.{kind-register, register-row, reset-code, row-held, before-step, before-le, before-less, before-lt, codes-register, codes-other, codes-length, codes-at, state-held, step-value}
 
 -- ---- the parts of the memory
 
@@ -41,11 +40,15 @@ ValuesKept w w′ = Kept (valuePlace 0) (valuePlace mostOriginalRows) w w′
 abbrev pub StateKept : ℕ → List ℕ → List ℕ → Type 0
 StateKept t w w′ = Kept (statePlace t) (statePlace t + stateBytes) w w′
 
+-- The parts of state 0 and of the list, with all between them.
+abbrev pub StartKept : List ℕ → List ℕ → Type 0
+StartKept w w′ = Kept (statePlace 0) (nextPlace mostOriginalRegisters) w w′
+
 -- State t stands before the values, or it is state 256 and stands behind them.
 pub place-early : (t : ℕ) → t < lastState → statePlace t ≡ 16384 + 64 * t
 place-early t h = let q : t / lastState ≡ 0 = omega arith in omega arith
 
-place-case {ℓ} : {P : Type ℓ} (t : ℕ) → t ≤ lastState → (t < lastState → statePlace t ≡ 16384 + 64 * t → P) → (t ≡ lastState → statePlace t ≡ valuePlace mostOriginalRows → P) → P
+pub place-case {ℓ} : {P : Type ℓ} (t : ℕ) → t ≤ lastState → (t < lastState → statePlace t ≡ 16384 + 64 * t → P) → (t ≡ lastState → statePlace t ≡ valuePlace mostOriginalRows → P) → P
 place-case t h f g = elim (decLt t lastState) [
   | yes k ↦ f k (place-early t k)
   | no k ↦ (let e : t ≡ lastState = omega arith in g e (ap statePlace e))
@@ -72,11 +75,19 @@ pub packed-state : (w w′ : List ℕ) (m t : ℕ) (cs : List ℕ) → m ≤ las
 packed-state w w′ m t cs h l n K P = packed-kept w (statePlace t) cs P w′ (λ k b. kept-at K (statePlace t + k) (states-apart m t k h l n b))
 
 -- Values stay while a state changes.
-value-kept : (w w′ : List ℕ) (t x : ℕ) → t ≤ lastState → x < mostOriginalRows → StateKept t w w′ → byteAt w′ (valuePlace x) ≡ byteAt w (valuePlace x)
+pub value-kept : (w w′ : List ℕ) (t x : ℕ) → t ≤ lastState → x < mostOriginalRows → StateKept t w w′ → byteAt w′ (valuePlace x) ≡ byteAt w (valuePlace x)
 value-kept w w′ t x h l K = kept-at K (valuePlace x) (λ a b. place-case t h (λ d e. omega arith) (λ d e. omega arith))
 
-coded-kept : (w w′ : List ℕ) (t : ℕ) → t ≤ lastState → StateKept t w w′ → Coded w → Coded w′
+pub coded-kept : (w w′ : List ℕ) (t : ℕ) → t ≤ lastState → StateKept t w w′ → Coded w → Coded w′
 coded-kept w w′ t h K C = let r = C .room in record { room = omega (arith, K .long); code = λ x l. rw (value-kept w w′ t x h l K) (C .code x l) }
+
+-- Both stay while the list changes.
+module _ {lo hi : ℕ} {w w′ : List ℕ} (K : Kept lo hi w w′) (from : nextPlace 0 ≤ lo) where
+  coded-listed : Coded w → Coded w′
+  coded-listed C = let r = C .room in record { room = omega (arith, K .long); code = λ x l. rw (K .under (valuePlace x) (omega arith)) (C .code x l) }
+
+  packed-listed : (t : ℕ) (cs : List ℕ) → t ≤ lastState → Packed w (statePlace t) cs → Packed w′ (statePlace t) cs
+  packed-listed t cs h P = let q = place-within t h in packed-kept w (statePlace t) cs P w′ (λ k l. K .under (statePlace t + k) (omega arith))
 
 -- A code fits behind the bits of those before it.
 pub put-exact : (x d : ℕ) → x < 3 → d < 4 → (x * 2 ^ (d * 2)) % 2 ^ 8 ≡ x * 2 ^ (d * 2)
@@ -197,7 +208,7 @@ module _ {f : List ℕ} {n i j : ℕ} (A : AtRow f n i j) where
           at-or : {P : Type 0} (y : ℕ) → (y ≡ i → P) → (byteAt (set w (valuePlace i) x) (valuePlace y) ≡ byteAt w (valuePlace y) → P) → P
           at-or y p q = elim (ℕ-discrete y i) [ yes k ↦ p k | no k ↦ q (getD-set-other w (valuePlace i) (valuePlace y) x 0 (λ (z : valuePlace y ≡ valuePlace i). k (omega arith))) ]
 
-    -- ---- its place in a state
+    -- ---- its place in state 0 and in the list
 
     module _ (is-register : isRegister (decodeRow (fieldsIn r)) ≡ true) where
       pub register-at : rowAt (netlistOf f) i ≡ register (r .reset) (r .a) (r .b)
@@ -207,105 +218,80 @@ module _ {f : List ℕ} {n i j : ℕ} (A : AtRow f n i j) where
       on-register {ℓ} : {T : Type ℓ} (d : T) (g : ℕ → ℕ → ℕ → T) → onRegister d g (rowAt (netlistOf f) i) ≡ g (r .reset) (r .a) (r .b)
       on-register d g = ap (onRegister d g) register-at
 
-      next-within : r .a / 2 < length (netlistOf f)
-      next-within = subst (λ (T : Type 0). T) (on-register (Unit {0}) (λ s a l. a / 2 < length (netlistOf f))) (A .ready .accepted .formed .nexts i row-within)
+      reset-in : r .reset ≤ 2
+      reset-in = subst (λ (T : Type 0). T) (on-register (Unit {0}) (λ s a l. s ≤ 2)) (A .ready .accepted .resets i row-within)
 
-      pub next-asks : (w : List ℕ) → Coded w → NextReady w r
-      next-asks w C =
-          let s = A .ready .accepted .small in
-          let h = next-within in record {
-            coded = C;
-            reset-in = subst (λ (T : Type 0). T) (on-register (Unit {0}) (λ s a l. s ≤ 2)) (A .ready .accepted .resets i row-within);
-            next-in = omega arith;
-          }
+      -- The reset is the code in state 0.
+      reset-is : r .reset ≡ codeOf (stateValue (netlistOf f) i 0)
+      reset-is = reset-code (r .reset) reset-in ∙ sym (ap codeOf (state-held (netlistOf f) zero i ∙ on-register _ _))
 
-      module _ {w : List ℕ} {t base : ℕ} (h : t ≤ lastState) (S : StatePart (netlistOf f) w t i) (place : base ≡ statePlace t) where
-        abbrev cs : List ℕ
-        cs = stateCodes (netlistOf f) t i
+      module _ {w : List ℕ} (S : Started (netlistOf f) w i) (bytes : IsBytes w) where
+        number-is : length (stateCodes (netlistOf f) 0 i) ≡ j
+        number-is = let l = row-within in codes-length (netlistOf f) 0 i (omega arith) ∙ sym (A .number)
 
-        number-is : length (stateCodes (netlistOf f) t i) ≡ j
-        number-is = let l = row-within in codes-length (netlistOf f) t i (omega arith) ∙ sym (A .number)
-
-        put-small : IsBytes w → byteAt w (base + j / 4) < 2 ^ (j % 4 * 2)
-        put-small bytes =
-            rw (place, ← number-is)
-            (packed-small w (statePlace t) (stateCodes (netlistOf f) t i) (S .part) bytes (omega (arith, number-is, register-small is-register)))
-
-        -- The next code is the code in state t.
-        next-is : nextIn w r t ≡ stateValue (netlistOf f) i t
-        next-is = at-step t S
-          where
-            at-step : (t : ℕ) → StatePart (netlistOf f) w t i → nextIn w r t ≡ stateValue (netlistOf f) i t
-            at-step zero S = sym (state-held (netlistOf f) zero i ∙ on-register _ _)
-            at-step (suc u) S =
-                literal-cong ternaryLogic (valueIn w) (stepValue (netlistOf f) u) (r .a) (ap valueOf (S .values u refl (r .a / 2) next-within) ∙ value-of-code (stepValue (netlistOf f) u (r .a / 2)))
-                ∙ sym (state-held (netlistOf f) (suc u) i ∙ on-register _ _)
-
-        abbrev putIn : ℕ → List ℕ
-        putIn x = set w (base + j / 4) (byteAt w (base + j / 4) + x * 2 ^ (j % 4 * 2))
-
-        put-packed : (x : ℕ) → IsBytes w → x < 3 → Packed (putIn x) base (stateCodes (netlistOf f) t i ++ (x ∷ []))
-        put-packed x bytes l =
-            let s = register-small is-register in
-            let c = S .coded .room in
-            let room : base + stateBytes ≤ length w = place-case t h (λ d e. omega arith) (λ d e. omega arith) in
+        put-small : byteAt w (statePlace 0 + j / 4) < 2 ^ (j % 4 * 2)
+        put-small =
             rw (← number-is)
-            (packed-more w base (stateCodes (netlistOf f) t i) (subst (λ (b : ℕ). Packed w b (stateCodes (netlistOf f) t i)) (sym place) (S .part)) x (omega arith) (omega (arith, number-is)) room
-            (rw number-is (put-small bytes)))
+            (packed-small w (statePlace 0) (stateCodes (netlistOf f) 0 i) (S .part) bytes (omega (arith, number-is, register-small is-register)))
 
-        pub put-asks : IsBytes w → (x : ℕ) → IsCode x (nextIn w r t) → ((base ≤ statePlace lastState) × ((j < mostOriginalRegisters) × (foldWorkBytes ≤ length w))) × ((x < 3) × (byteAt w (base + j / 4) < 2 ^ (j % 4 * 2)))
-        put-asks bytes x e = ((place-case t h (λ d q. omega arith) (λ d q. omega arith), (register-small is-register, S .coded .room)), (e .1, put-small bytes))
+        pub put-asks : ((statePlace 0 ≤ statePlace lastState) × ((j < mostOriginalRegisters) × (foldWorkBytes ≤ length w))) × ((r .reset < 3) × (byteAt w (statePlace 0 + j / 4) < 2 ^ (j % 4 * 2)))
+        put-asks = let h = reset-in in ((omega arith, (register-small is-register, S .coded .room)), (omega arith, put-small))
 
-        pub part-more : (x : ℕ) → IsBytes w → IsCode x (nextIn w r t) → StateKept t w (putIn x) × StatePart (netlistOf f) (putIn x) t (i + 1)
-        part-more x bytes e =
-            let s = register-small is-register in
-            let K : StateKept t w (putIn x) = kept-set (statePlace t) (statePlace t + stateBytes) (base + j / 4) _ w (omega arith) (omega arith) in
-            let q : stateCodes (netlistOf f) t i ++ (x ∷ []) ≡ stateCodes (netlistOf f) t (i + 1) =
-            ap (λ (y : ℕ). stateCodes (netlistOf f) t i ++ (y ∷ [])) (e .0 ∙ ap codeOf next-is) ∙ sym (codes-register (netlistOf f) t i (register-is ∙ is-register)) in (
-              K,
-              record {
-                coded = coded-kept w (putIn x) t h K (S .coded);
-                part = subst (Packed (putIn x) (statePlace t)) q (subst (λ (b : ℕ). Packed (putIn x) b (stateCodes (netlistOf f) t i ++ (x ∷ []))) place (put-packed x bytes (e .1)));
-                values = λ u d y l. value-kept w (putIn x) t y h (let b = A .ready .accepted .small in omega arith) K ∙ S .values u d y l;
-              },
-            )
+        module _ {w₁ : List ℕ} (put : w₁ ≡ set w (statePlace 0 + j / 4) (byteAt w (statePlace 0 + j / 4) + r .reset * 2 ^ (j % 4 * 2))) where
+          put-kept : StateKept 0 w w₁
+          put-kept = let s = register-small is-register in rw put (kept-set (statePlace 0) (statePlace 0 + stateBytes) (statePlace 0 + j / 4) _ w (omega arith) (omega arith))
 
-    pub part-other : (w : List ℕ) (t : ℕ) → isRegister (decodeRow (fieldsIn r)) ≡ false → StatePart (netlistOf f) w t i → StatePart (netlistOf f) w t (i + 1)
-    part-other w t e S = record {
+          pub list-asks : (j < mostOriginalRegisters) × (foldWorkBytes ≤ length w₁)
+          list-asks = let c = S .coded .room in (register-small is-register, omega (arith, put-kept .long))
+
+          put-packed : Packed w₁ (statePlace 0) (stateCodes (netlistOf f) 0 (i + 1))
+          put-packed =
+              let s = register-small is-register in
+              let c = S .coded .room in
+              let h = reset-in in
+              let q : stateCodes (netlistOf f) 0 i ++ (r .reset ∷ []) ≡ stateCodes (netlistOf f) 0 (i + 1) =
+              ap (λ (y : ℕ). stateCodes (netlistOf f) 0 i ++ (y ∷ [])) reset-is ∙ sym (codes-register (netlistOf f) 0 i (register-is ∙ is-register)) in
+              subst (Packed w₁ (statePlace 0)) q
+              (rw (put, ← number-is)
+              (packed-more w (statePlace 0) (stateCodes (netlistOf f) 0 i) (S .part) (r .reset) (omega arith) (omega (arith, number-is)) (omega arith)
+              (rw number-is put-small)))
+
+          module _ {w₂ : List ℕ} (small : r .a < 2 ^ 16) (listed : w₂ ≡ sets w₁ (nextPlace j) (u16Bytes (r .a))) where
+            list-kept : Kept (nextPlace j) (nextPlace (j + 1)) w₁ w₂
+            list-kept = rw listed (kept-sets (nextPlace j) (nextPlace (j + 1)) (u16Bytes (r .a)) w₁ (nextPlace j) (omega arith) (omega arith))
+
+            nexts-more : NextsListed (netlistOf f) w₂ (i + 1)
+            nexts-more x h e =
+                last-or x i (omega arith)
+                (λ l.
+                let less = before-less (netlistOf f) i x (let k = row-within in omega arith) l e in
+                let k = A .number in
+                u16-kept list-kept (nextPlace (registersBefore (netlistOf f) x)) (λ y a b c d. omega arith)
+                ∙ u16-kept put-kept (nextPlace (registersBefore (netlistOf f) x)) (λ y a b c d. omega arith)
+                ∙ S .nexts x l e)
+                (λ q.
+                let s = register-small is-register in
+                let c = S .coded .room in
+                let k = put-kept .long in
+                rw (q, ← A .number, listed) (u16-back w₁ (nextPlace j) (r .a) small (omega arith) ∙ sym (on-register 0 (λ s a l. a))))
+
+            pub started-more : StartKept w w₂ × Started (netlistOf f) w₂ (i + 1)
+            started-more =
+                let s = register-small is-register in (
+                  kept-join (statePlace 0) (nextPlace mostOriginalRegisters) w w₁ w₂ put-kept list-kept (omega arith) (omega arith) (omega arith) (omega arith),
+                  record {
+                    coded = coded-listed list-kept (omega arith) (coded-kept w w₁ 0 (omega arith) put-kept (S .coded));
+                    part = packed-listed list-kept (omega arith) 0 (stateCodes (netlistOf f) 0 (i + 1)) (omega arith) put-packed;
+                    nexts = nexts-more;
+                    clear = λ t h l. packed-listed list-kept (omega arith) t [] l (packed-state w w₁ 0 t [] (omega arith) l (λ (e : t ≡ 0). omega arith) put-kept (S .clear t h l));
+                  },
+                )
+
+    pub started-other : (w : List ℕ) → isRegister (decodeRow (fieldsIn r)) ≡ false → Started (netlistOf f) w i → Started (netlistOf f) w (i + 1)
+    started-other w e S = record {
       coded = S .coded;
-      part = subst (Packed w (statePlace t)) (sym (codes-other (netlistOf f) t i (register-is ∙ e))) (S .part);
-      values = S .values;
+      part = subst (Packed w (statePlace 0)) (sym (codes-other (netlistOf f) 0 i (register-is ∙ e))) (S .part);
+      nexts = λ x h q. last-or x i (omega arith) (λ l. S .nexts x l q)
+          (λ k. absurd (false≢true (sym (register-is ∙ e) ∙ ap (λ (y : ℕ). isRegister (rowAt (netlistOf f) y)) (sym k) ∙ q)));
+      clear = S .clear;
     }
-
--- ---- from state m - 1 to state m
-
-module _ {rows : List Row} {w : List ℕ} {m : ℕ} (from : 1 ≤ m) (to : m ≤ lastState) (S : Searched rows w m) where
-  pub evaluate-asks : Evaluated rows w (m - 1) 0
-  evaluate-asks = record { coded = S .coded; state = S .stored (m - 1) (omega arith); values = λ x l. absurd (omega arith) }
-
-  module _ {n : ℕ} {w₁ : List ℕ} (count : n ≡ length rows) (K : ValuesKept w w₁) (E : Evaluated rows w₁ (m - 1) n) where
-    pub pack-asks : StatePart rows w₁ m 0
-    unfolding stateCodes
-    pack-asks = record {
-      coded = E .coded;
-      part = packed-values w w₁ m [] to K (S .clear m (omega arith) to);
-      values = λ u e x l.
-          let q : m - 1 ≡ u = omega arith in
-          subst (λ (v : ℕ). byteAt w₁ (valuePlace x) ≡ codeOf (stepValue rows v x)) q (E .values x (omega arith));
-    }
-
-    module _ {w₂ : List ℕ} (L : StateKept m w₁ w₂) (P : StatePart rows w₂ m n) where
-      pub advance-kept : Kept (statePlace 0) (knownPlace 0) w w₂
-      advance-kept = kept-join (statePlace 0) (knownPlace 0) w w₁ w₂ K L (omega arith) (omega arith) (omega arith) (place-case m to (λ d e. omega arith) (λ d e. omega arith))
-
-      other-kept : (t : ℕ) (cs : List ℕ) → t ≤ lastState → (t ≡ m → ⊥) → Packed w (statePlace t) cs → Packed w₂ (statePlace t) cs
-      other-kept t cs h q C = packed-state w₁ w₂ m t cs to h q L (packed-values w w₁ t cs h K C)
-
-      pub advance-done : Searched rows w₂ (m + 1)
-      advance-done = record {
-        coded = P .coded;
-        stored = λ t h. last-or t m (omega arith)
-            (λ l. other-kept t (stateCodes rows t (length rows)) (omega arith) (λ (e : t ≡ m). omega arith) (S .stored t l))
-            (λ e. subst (Stored rows w₂) (sym e) (subst (λ (k : ℕ). Packed w₂ (statePlace m) (stateCodes rows m k)) count (P .part)));
-        clear = λ t h l. other-kept t [] l (λ (e : t ≡ m). omega arith) (S .clear t (omega arith) l);
-      }

@@ -1,6 +1,6 @@
 -- Two states are equal exactly if the words that hold them are.
 -- Assumes nothing.
-use Prim.Native.Nat.{ℕ, zero, suc, _+_, _-_, _*_, _<_, _≤_, _/_, _%_, _^_}
+use Prim.Native.Nat.{ℕ, _+_, _-_, _*_, _<_, _≤_, _/_, _%_, _^_}
 use mathlib.Core.Path.{_≡_, refl, sym, ap, ap₂, _∙_, subst}
 use mathlib.Core.Bool.{Bool, true, false, true≢false}
 use mathlib.Core.List.{List}
@@ -8,7 +8,6 @@ use native.Mathlib.Omega.{arith}
 use native.Mathlib.Numerals.{add-one}
 use native.Mathlib.Decide.{decLt}
 use borrow.Author.Tests.{eqb-true, eq-eqb, ne-eqb}
-use lib.Dec.{eqb}
 use lib.ListN.{length}
 use lib.Seq.{ext-getD}
 use Rattle.memory.specs.Lists.{allBelow, countIf}
@@ -24,7 +23,7 @@ use Rattle.netlist.specs.Simulation.{ternaryState}
 use Rattle.lasso.specs.LassoSearch.{equalStates}
 use Rattle.lasso.specs.Generators.{stateValue}
 use Rattle.lasso.proofs.LassoLaws.{states-equal, states-same}
-use Rattle.lasso_finder.specs.StateMap.{statePlace, pairOf, codeAt, stateBytes, Packed, registersBefore, stateCodes, Stored}
+use Rattle.lasso_finder.specs.StateMap.{statePlace, pairOf, codeAt, Packed, registersBefore, stateCodes, Stored}
 use Rattle.lasso_finder.specs.Stages.{wordAt, sameWord}
 use Rattle.lasso_finder.proofs.CodeLaws.{packed-at, packed-bytes}
 use Rattle.lasso_finder.proofs.RegisterLaws.{before-lt, codes-at, state-other, state-length}

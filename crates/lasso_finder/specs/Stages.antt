@@ -19,7 +19,7 @@ use Rattle.lasso.specs.LassoSearch.{Lasso, findLasso}
 use Rattle.lasso.specs.Generators.{periodOf, periodsOf, isUsed, clockValue}
 use Rattle.lasso.specs.ClockEntries.{ClockEntry, clockWord}
 use Rattle.lasso_finder.specs.WorkMap.{knownPlace, entryPlace, entriesIn}
-use Rattle.lasso_finder.specs.StateMap.{Ready, statePlace, valuePlace, codeAt, Kept, registersBefore, Stored}
+use Rattle.lasso_finder.specs.StateMap.{Ready, statePlace, valuePlace, nextPlace, codeAt, Kept, registersBefore, Stored}
 use Rattle.lasso_finder.specs.declared.search.Repeat.{Repeat}
 use Rattle.lasso_finder.specs.declared.search.Repeat.the-variants.{Found, Never}
 
@@ -40,7 +40,7 @@ repeatOf (some z) = Found (z .stem) (z .cycle)
 pub record LassoDone (rows : List Row) (w w′ : List ℕ) (r : Repeat) : Type 0 where
   pub answer : r ≡ repeatOf (findLasso rows)
   pub states : (z : Lasso) → findLasso rows ≡ some z → (t : ℕ) → t < z .stem + z .cycle → Stored rows w′ t
-  pub kept : Kept (statePlace 0) (knownPlace 0) w w′
+  pub kept : Kept (statePlace 0) (nextPlace mostOriginalRegisters) w w′
 
 -- The lasso, where there is one.
 abbrev pub lassoOf : Option Lasso → Lasso

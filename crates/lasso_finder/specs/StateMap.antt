@@ -1,20 +1,21 @@
--- Fold's work memory while the lasso is sought: the states, four registers to a byte, and each row's value, a byte each.
--- Interface: Ready (what an accepted file gives), statePlace, valuePlace, Packed, Stored, Valued, Kept.
+-- Fold's work memory while the lasso is sought: the states, four registers to a byte, each row's value, a byte each, and the registers' next-value literals, two bytes each.
+-- Interface: Ready (what an accepted file gives), statePlace, valuePlace, nextPlace, Packed, Stored, Valued, Kept.
 -- Assumes nothing.
-use Prim.Native.Nat.{ℕ, zero, suc, _+_, _*_, _<_, _≤_, _/_, _%_, _^_}
+use Prim.Native.Nat.{ℕ, _+_, _*_, _<_, _≤_, _/_, _%_, _^_}
 use mathlib.Core.Path.{_≡_}
 use mathlib.Core.Bool.{true, cond}
 use mathlib.Core.List.{List, [], _∷_}
 use lib.ListN.{length, getD, take}
-use Rattle.memory.specs.Lists.{joinBelow, countIf}
-use Rattle.memory.specs.Fields.{byteAt}
+use Rattle.memory.specs.Lists.{joinBelow, tabulate, countIf}
+use Rattle.memory.specs.Fields.{byteAt, u16At}
 use Rattle.ternary.specs.Ternary.{Ternary, X, codeOf, valueOf}
 use Rattle.netlist.specs.Limits.{mostOriginalRows, mostOriginalRegisters, foldWorkBytes, lastState}
-use Rattle.netlist.specs.Rows.{Row, decodeRow, rowAt, isRegister}
+use Rattle.netlist.specs.Rows.{Row, decodeRow, rowAt, onRegister, isRegister}
 use Rattle.netlist.specs.FileFormat.{rowOffset, readFields, netlistOf}
-use Rattle.netlist.specs.Simulation.{ternaryLogic, literalValue, rowValue, startBy, runValue}
+use Rattle.netlist.specs.Simulation.{ternaryLogic, literalValue, rowValue, runValue}
 use Rattle.netlist.proofs.WellFormed.{OperandsBelow, AcceptedRows}
 use Rattle.lasso.specs.Generators.{stateValue}
+use Rattle.lasso_finder.specs.WorkMap.{knownPlace}
 use Rattle.blockfile.specs.RowCode.{fieldsIn}
 use Rattle.blockfile.specs.declared.Fields.{Fields}
 
@@ -34,6 +35,10 @@ statePlace t = 16384 + 64 * t + t / lastState * mostOriginalRows
 
 abbrev pub valuePlace : ℕ → ℕ
 valuePlace i = 32768 + i
+
+-- The next-value literal of register j has two bytes from here on, where later stands what is known of the rows.
+abbrev pub nextPlace : ℕ → ℕ
+nextPlace j = knownPlace j
 
 -- w′ is w but for the bytes from lo to hi - 1.
 pub record Kept (lo hi : ℕ) (w w′ : List ℕ) : Type 0 where
@@ -61,6 +66,10 @@ Packed w base cs = (k e : ℕ) → k < stateBytes → e < 4 → pairOf (byteAt w
 -- How many of the first i rows are registers: the number of a register in row i.
 abbrev pub registersBefore : List Row → ℕ → ℕ
 registersBefore rows i = countIf isRegister (take i rows)
+
+-- The next-value literal of a register.
+abbrev pub nextOf : Row → ℕ
+nextOf r = onRegister 0 (λ s a l. a) r
 
 -- What the registers of the first i rows hold in state t.
 unfoldable pub stateCodes : List Row → ℕ → ℕ → List ℕ
@@ -105,21 +114,28 @@ pub record RowReady (w : List ℕ) (r : Fields) (base j : ℕ) : Type 0 where
 abbrev pub rowIn : List ℕ → Fields → ℕ → ℕ → Ternary
 rowIn w r base j = rowValue ternaryLogic (valueOf (codeAt w base j)) (λ l p. X) (valueIn w) (decodeRow (fieldsIn r))
 
--- What a register's next code asks, and what it is, in state t.
-pub record NextReady (w : List ℕ) (r : Fields) : Type 0 where
-  pub coded : Coded w
-  pub reset-in : r .reset ≤ 2
-  pub next-in : r .a / 2 < mostOriginalRows
-
-abbrev pub nextIn : List ℕ → Fields → ℕ → Ternary
-nextIn w r zero = startBy ternaryLogic (r .reset) X
-nextIn w r (suc t) = literalIn w (r .a)
-
 -- Row i is one of the n rows of the file f, and j registers stand before it.
 pub record AtRow (f : List ℕ) (n i j : ℕ) : Type 0 where
   pub ready : Ready f n
   pub within : i < n
   pub number : j ≡ registersBefore (netlistOf f) i
+
+-- Rows start to stop - 1 are rows of the file f, which has n, and of one block, whose first row is row start and stands at `first`; `before` registers stand before it.
+pub record InBlock (f : List ℕ) (n start stop first before : ℕ) : Type 0 where
+  pub ready : Ready f n
+  pub starts : start % 63 ≡ 0
+  pub from : start ≤ stop
+  pub few : stop ≤ start + 63
+  pub within : stop ≤ n
+  pub place : first ≡ rowOffset start
+  pub number : before ≡ registersBefore (netlistOf f) start
+
+-- Of n rows, those of the block that starts with row start are the rows up to stop - 1.
+pub record BlockStop (start n stop : ℕ) : Type 0 where
+  pub from : start < stop
+  pub few : stop ≤ start + 63
+  pub within : stop ≤ n
+  pub whole : stop < n → stop ≡ start + 63
 
 -- State t and the values of the first i rows in step t stand in the memory.
 pub record Evaluated (rows : List Row) (w : List ℕ) (t i : ℕ) : Type 0 where
@@ -127,14 +143,33 @@ pub record Evaluated (rows : List Row) (w : List ℕ) (t i : ℕ) : Type 0 where
   pub state : Stored rows w t
   pub values : Valued rows w t i
 
--- The registers of the first i rows in state t stand in its place, and, if t is not 0, the values of the step before it.
-pub record StatePart (rows : List Row) (w : List ℕ) (t i : ℕ) : Type 0 where
-  pub coded : Coded w
-  pub part : Packed w (statePlace t) (stateCodes rows t i)
-  pub values : (u : ℕ) → t ≡ suc u → Valued rows w u (length rows)
+-- ---- from state to state
 
--- States 0 to m - 1 stand in their places, and the places of the others are clear.
+-- The next-value literals of the registers among the first i rows stand in the list.
+abbrev pub NextsListed : List Row → List ℕ → ℕ → Type 0
+NextsListed rows w i = (x : ℕ) → x < i → isRegister (rowAt rows x) ≡ true → u16At w (nextPlace (registersBefore rows x)) ≡ nextOf (rowAt rows x)
+
+-- State 0 and the list have the registers of the first i rows, and the places of the other states are clear.
+pub record Started (rows : List Row) (w : List ℕ) (i : ℕ) : Type 0 where
+  pub coded : Coded w
+  pub part : Packed w (statePlace 0) (stateCodes rows 0 i)
+  pub nexts : NextsListed rows w i
+  pub clear : (t : ℕ) → 1 ≤ t → t ≤ lastState → Packed w (statePlace t) []
+
+-- What packing state m from the first n listed literals asks, and the codes of what these show.
+pub record NextReady (w : List ℕ) (n m : ℕ) : Type 0 where
+  pub coded : Coded w
+  pub few : n ≤ mostOriginalRegisters
+  pub known-state : m ≤ lastState
+  pub literals : (j : ℕ) → j < n → u16At w (nextPlace j) / 2 < mostOriginalRows
+  pub clear : Packed w (statePlace m) []
+
+abbrev pub shownCodes : List ℕ → ℕ → List ℕ
+shownCodes w n = tabulate n (λ j. codeOf (literalIn w (u16At w (nextPlace j))))
+
+-- States 0 to m - 1 and the list stand in their places, and the places of the other states are clear.
 pub record Searched (rows : List Row) (w : List ℕ) (m : ℕ) : Type 0 where
   pub coded : Coded w
   pub stored : (t : ℕ) → t < m → Stored rows w t
   pub clear : (t : ℕ) → m ≤ t → t ≤ lastState → Packed w (statePlace t) []
+  pub nexts : NextsListed rows w (length rows)

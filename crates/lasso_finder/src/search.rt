@@ -51,12 +51,12 @@ pub fn find_lasso(file: &[u8], rows: usize, work: &mut [u8]) -> Repeat
     requires { ⌜ WorkReady (now work) ⌝ }
     ensures { λ r. ⌜ LassoDone (netlistOf (now (file .entry))) (now (work .entry)) (now (work .exit)) r ⌝ }
 {
-    let registers = states::pack(file, rows, work, 0);
+    let registers = states::start(file, rows, work);
     let words = (registers + 31) / 32;
     let mut answer = Repeat::Never;
     let mut m = 1;
     'states: while m <= LAST_STATE {
-        states::advance(file, rows, work, m);
+        states::advance(file, rows, registers, work, m);
         let new = states::state_place(m);
         let mut k = 0;
         'history: while k < m {

@@ -4,18 +4,31 @@ ghost use mathlib.Core.Bool.{cond};
 ghost use Prim.Native.Nat.{_+_, _-_, _*_, _<_, _≤_, _/_, _%_, _^_};
 ghost use lib.Dec.{eqb};
 ghost use lib.ListN.{length, set};
+ghost use lib.Seq.{sets};
 ghost use Rattle.memory.specs.Lists.{countIf};
-ghost use Rattle.memory.specs.Fields.{byteAt};
+ghost use Rattle.memory.specs.Fields.{byteAt, u16Bytes};
 ghost use Rattle.ternary.specs.Ternary.{and3, xor3, mux3, codeOf};
 ghost use Rattle.netlist.specs.Limits.{mostOriginalRows, mostOriginalRegisters, foldWorkBytes, lastState};
 ghost use Rattle.netlist.specs.Rows.{isRegister};
-ghost use Rattle.netlist.specs.FileFormat.{netlistOf};
-ghost use Rattle.lasso_finder.specs.StateMap.{Ready, statePlace, valuePlace, Kept, codeAt, stateBytes, registersBefore, Coded, literalIn, RowReady, rowIn, NextReady, nextIn, AtRow, Evaluated, StatePart, Searched};
+ghost use Rattle.netlist.specs.FileFormat.{rowOffset, netlistOf};
+ghost use Rattle.lasso_finder.specs.StateMap.{Ready, statePlace, valuePlace, nextPlace, Kept, codeAt, stateBytes, Packed, registersBefore, Coded, literalIn, RowReady, rowIn, AtRow, InBlock, BlockStop, Evaluated, Started, shownCodes, NextReady, Searched};
 ghost use Rattle.lasso_finder.specs.WorkMap.{knownPlace};
 
+// The lent memory: the states, the rows' values, and the registers' next-value literals, where later stands what is known of the rows.
 pub const HISTORY: usize = 16384;
 
 pub const VALUES: usize = 32768;
+
+const NEXTS: usize = 33840;
+
+// The file: where its first row stands, and the sizes of a row and of a block.
+const FIRST_ROW: usize = 4;
+
+const ROW_BYTES: usize = 8;
+
+const BLOCK_ROWS: usize = 63;
+
+const BLOCK_BYTES: usize = 512;
 
 // The byte at which state t starts: 64 for each state before it, and before state 256 the rows' values.
 pub fn state_place(t: usize) -> usize
@@ -37,16 +50,15 @@ pub fn register_code(work: &[u8], base: usize, j: usize) -> u8
 
 // ---- a row's value
 
+// A node's value, or its inverse: the XOR with 1.
 pub fn literal_value(work: &[u8], literal: usize) -> u8
     requires { ⌜ (literal / 2 < mostOriginalRows) × Coded (now work) ⌝ }
     ensures { λ r. ⌜ (r ≡ codeOf (literalIn (now (work .entry)) literal)) × (r < 3) ⌝ }
 {
     let place = VALUES + literal / 2;
     let value = work[place];
-    if literal % 2 == 0 {
-        return value;
-    }
-    ternary::invert(value)
+    let inverted = (literal % 2) as u8;
+    ternary::lookup_xor(inverted, value)
 }
 
 fn and_value(work: &[u8], a: usize, b: usize) -> u8
@@ -111,35 +123,84 @@ pub fn count_register(kind: u8, j: usize) -> usize
     j
 }
 
-// Puts the value of the row in step t; answers the number of registers up to it.
-fn evaluate_row(file: &[u8], rows: usize, row: usize, j: usize, work: &mut [u8], t: usize) -> usize
-    requires { ⌜ AtRow (now file) rows row j ⌝ }
+// Puts the value of the row, which stands at `place`, in step t; answers the number of registers up to it.
+fn evaluate_row(
+    file: &[u8],
+    rows: usize,
+    row: usize,
+    place: usize,
+    j: usize,
+    work: &mut [u8],
+    t: usize,
+) -> usize
+    requires { ⌜ AtRow (now file) rows row j × (place ≡ rowOffset row) ⌝ }
     requires { ⌜ (t < lastState) × Evaluated (netlistOf (now file)) (now work) t row ⌝ }
     ensures { λ r. ⌜ (r ≡ registersBefore (netlistOf (now (file .entry))) (row + 1)) × (Kept (valuePlace 0) (valuePlace mostOriginalRows) (now (work .entry)) (now (work .exit)) × Evaluated (netlistOf (now (file .entry))) (now (work .exit)) t (row + 1)) ⌝ }
 {
-    let fields = blockfile::read_row(file, row);
+    let fields = blockfile::read_at(file, place);
     let base = HISTORY + 64 * t;
     let value = row_value(work, fields, base, j);
-    let place = VALUES + row;
-    work[place] = value;
+    let at = VALUES + row;
+    work[at] = value;
     count_register(fields.kind, j)
 }
 
-// Puts the values of all rows in step t, from state t.
+// Puts the values of the rows from `start` to `stop` - 1 of a block, which stand from `first` on, in step t; answers the number of registers up to them.
+fn evaluate_block(
+    file: &[u8],
+    rows: usize,
+    start: usize,
+    stop: usize,
+    first: usize,
+    before: usize,
+    work: &mut [u8],
+    t: usize,
+) -> usize
+    requires { ⌜ InBlock (now file) rows start stop first before ⌝ }
+    requires { ⌜ (t < lastState) × Evaluated (netlistOf (now file)) (now work) t start ⌝ }
+    ensures { λ r. ⌜ (r ≡ registersBefore (netlistOf (now (file .entry))) stop) × (Kept (valuePlace 0) (valuePlace mostOriginalRows) (now (work .entry)) (now (work .exit)) × Evaluated (netlistOf (now (file .entry))) (now (work .exit)) t stop) ⌝ }
+{
+    let mut i = start;
+    let mut place = first;
+    let mut j = before;
+    'rows: while i < stop {
+        j = evaluate_row(file, rows, i, place, j, work, t);
+        i += 1;
+        place += ROW_BYTES;
+    }
+    j
+}
+
+// The row after the last one of the block that starts with the row `start`.
+fn block_stop(start: usize, rows: usize) -> usize
+    requires { ⌜ (start < rows) × (rows ≤ mostOriginalRows) ⌝ }
+    ensures { λ r. ⌜ BlockStop start rows r ⌝ }
+{
+    let next = start + BLOCK_ROWS;
+    if next < rows {
+        return next;
+    }
+    rows
+}
+
+// Puts the values of all rows in step t, from state t, block by block.
 fn evaluate(file: &[u8], rows: usize, work: &mut [u8], t: usize)
     requires { ⌜ Ready (now file) rows ⌝ }
     requires { ⌜ (t < lastState) × Evaluated (netlistOf (now file)) (now work) t 0 ⌝ }
     ensures { λ _. ⌜ Kept (valuePlace 0) (valuePlace mostOriginalRows) (now (work .entry)) (now (work .exit)) × Evaluated (netlistOf (now (file .entry))) (now (work .exit)) t rows ⌝ }
 {
-    let mut i = 0;
+    let mut start = 0;
+    let mut first = FIRST_ROW;
     let mut j = 0;
-    'rows: while i < rows {
-        j = evaluate_row(file, rows, i, j, work, t);
-        i += 1;
+    'each_block: while start < rows {
+        let stop = block_stop(start, rows);
+        j = evaluate_block(file, rows, start, stop, first, j, work, t);
+        start = stop;
+        first += BLOCK_BYTES;
     }
 }
 
-// ---- the next state
+// ---- the first state, and the registers' next-value literals
 
 // Puts a code in as register j of the state that starts at `base`, behind the registers before it.
 fn put_code(work: &mut [u8], base: usize, j: usize, code: u8)
@@ -153,57 +214,74 @@ fn put_code(work: &mut [u8], base: usize, j: usize, code: u8)
     work[place] = before + (code << shift);
 }
 
-// What a register holds in state t: its reset, or what its next-value literal shows in the step before.
-fn next_code(work: &[u8], row: blockfile::Fields, t: usize) -> u8
-    requires { ⌜ NextReady (now work) row ⌝ }
-    ensures { λ r. ⌜ (r ≡ codeOf (nextIn (now (work .entry)) row t)) × (r < 3) ⌝ }
+// Puts register j's next-value literal in the list.
+fn list_next(work: &mut [u8], j: usize, next: usize)
+    requires { ⌜ (j < mostOriginalRegisters) × ((next < 2 ^ 16) × (foldWorkBytes ≤ length (now work))) ⌝ }
+    ensures { λ _. ⌜ now (work .exit) ≡ sets (now (work .entry)) (nextPlace j) (u16Bytes next) ⌝ }
 {
-    if t == 0 {
-        return row.reset;
-    }
-    let next = row.a;
-    literal_value(work, next)
+    let place = NEXTS + 2 * j;
+    let literal = next as u32;
+    memory::write_u16(work, place, literal);
 }
 
-// Puts the row in, if it is a register, as register j of state t; answers the number of registers up to it.
-fn pack_row(file: &[u8], rows: usize, row: usize, j: usize, work: &mut [u8], t: usize) -> usize
+// Puts the row in, if it is a register, as register j of state 0, and lists its next-value literal; answers the number of registers up to it.
+fn start_row(file: &[u8], rows: usize, row: usize, j: usize, work: &mut [u8]) -> usize
     requires { ⌜ AtRow (now file) rows row j ⌝ }
-    requires { ⌜ (t ≤ lastState) × StatePart (netlistOf (now file)) (now work) t row ⌝ }
-    ensures { λ r. ⌜ (r ≡ registersBefore (netlistOf (now (file .entry))) (row + 1)) × (Kept (statePlace t) (statePlace t + stateBytes) (now (work .entry)) (now (work .exit)) × StatePart (netlistOf (now (file .entry))) (now (work .exit)) t (row + 1)) ⌝ }
+    requires { ⌜ Started (netlistOf (now file)) (now work) row ⌝ }
+    ensures { λ r. ⌜ (r ≡ registersBefore (netlistOf (now (file .entry))) (row + 1)) × (Kept (statePlace 0) (nextPlace mostOriginalRegisters) (now (work .entry)) (now (work .exit)) × Started (netlistOf (now (file .entry))) (now (work .exit)) (row + 1)) ⌝ }
 {
     let fields = blockfile::read_row(file, row);
     let kind = fields.kind;
+    let reset = fields.reset;
+    let next = fields.a;
     if kind == 2 {
-        let base = state_place(t);
-        let code = next_code(work, fields, t);
-        put_code(work, base, j, code);
+        put_code(work, HISTORY, j, reset);
+        list_next(work, j, next);
         return j + 1;
     }
     j
 }
 
-// Puts state t in its place; answers the number of registers.
-pub fn pack(file: &[u8], rows: usize, work: &mut [u8], t: usize) -> usize
+// Puts state 0 in its place and lists the registers' next-value literals; answers the number of registers.
+pub fn start(file: &[u8], rows: usize, work: &mut [u8]) -> usize
     requires { ⌜ Ready (now file) rows ⌝ }
-    requires { ⌜ (t ≤ lastState) × StatePart (netlistOf (now file)) (now work) t 0 ⌝ }
-    ensures { λ r. ⌜ (r ≡ countIf isRegister (netlistOf (now (file .entry)))) × (Kept (statePlace t) (statePlace t + stateBytes) (now (work .entry)) (now (work .exit)) × StatePart (netlistOf (now (file .entry))) (now (work .exit)) t rows) ⌝ }
+    requires { ⌜ Started (netlistOf (now file)) (now work) 0 ⌝ }
+    ensures { λ r. ⌜ (r ≡ countIf isRegister (netlistOf (now (file .entry)))) × (Kept (statePlace 0) (nextPlace mostOriginalRegisters) (now (work .entry)) (now (work .exit)) × Started (netlistOf (now (file .entry))) (now (work .exit)) rows) ⌝ }
 {
     let mut i = 0;
     let mut j = 0;
     'rows: while i < rows {
-        j = pack_row(file, rows, i, j, work, t);
+        j = start_row(file, rows, i, j, work);
         i += 1;
     }
     j
 }
 
-// Puts state m in its place, from state m - 1.
-pub fn advance(file: &[u8], rows: usize, work: &mut [u8], m: usize)
-    requires { ⌜ Ready (now file) rows ⌝ }
+// ---- from a state to the next
+
+// Puts state m in its place: what each of the n listed literals shows.
+fn pack_next(work: &mut [u8], n: usize, m: usize)
+    requires { ⌜ NextReady (now work) n m ⌝ }
+    ensures { λ _. ⌜ Kept (statePlace m) (statePlace m + stateBytes) (now (work .entry)) (now (work .exit)) × Packed (now (work .exit)) (statePlace m) (shownCodes (now (work .entry)) n) ⌝ }
+{
+    let base = state_place(m);
+    let mut j = 0;
+    'registers: while j < n {
+        let at = NEXTS + 2 * j;
+        let next = blockfile::field_at(work, at);
+        let code = literal_value(work, next);
+        put_code(work, base, j, code);
+        j += 1;
+    }
+}
+
+// Puts state m in its place, from state m - 1; there are `registers` registers.
+pub fn advance(file: &[u8], rows: usize, registers: usize, work: &mut [u8], m: usize)
+    requires { ⌜ Ready (now file) rows × (registers ≡ countIf isRegister (netlistOf (now file))) ⌝ }
     requires { ⌜ (1 ≤ m) × ((m ≤ lastState) × Searched (netlistOf (now file)) (now work) m) ⌝ }
     ensures { λ _. ⌜ Kept (statePlace 0) (knownPlace 0) (now (work .entry)) (now (work .exit)) × Searched (netlistOf (now (file .entry))) (now (work .exit)) (m + 1) ⌝ }
 {
     let last = m - 1;
     evaluate(file, rows, work, last);
-    pack(file, rows, work, m);
+    pack_next(work, registers, m);
 }

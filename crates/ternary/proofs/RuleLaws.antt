@@ -1,6 +1,6 @@
 -- The laws of the three-valued rules: what a rule knows holds of the concrete values, and codes stand for values. All that stands above goes by these.
 -- Assumes nothing.
-use Prim.Native.Nat.{ℕ, zero, suc, _<_}
+use Prim.Native.Nat.{_<_}
 use mathlib.Core.Path.{_≡_, refl, sym, ap, _∙_}
 use mathlib.Core.Bool.{Bool, true, false, cond, not, _&&_, false≢true}
 use native.Mathlib.Omega.{arith}
@@ -62,11 +62,6 @@ pub value-of-code : (a : Ternary) → valueOf (codeOf a) ≡ a
 value-of-code lo = refl
 value-of-code hi = refl
 value-of-code X = refl
-
-pub value-unknown : (n : ℕ) → 1 < n → valueOf n ≡ X
-value-unknown zero h = absurd (omega arith)
-value-unknown (suc zero) h = absurd (omega arith)
-value-unknown (suc (suc n)) h = refl
 
 pub code-below : (a : Ternary) → codeOf a < 3
 code-below lo = omega arith

@@ -1,7 +1,7 @@
-// The three-valued gates over the codes 0, 1 and 2 (X): fixed tables for AND, XOR and MUX, and the inverse.
+// The three-valued gates over the codes 0, 1 and 2 (X): fixed tables for AND, XOR and MUX.
 ghost use mathlib.Core.Path.{_≡_};
 ghost use Prim.Native.Nat.{_<_};
-ghost use Rattle.ternary.specs.Ternary.{not3, and3, xor3, mux3, codeOf, valueOf};
+ghost use Rattle.ternary.specs.Ternary.{and3, xor3, mux3, codeOf, valueOf};
 
 // In AND and XOR the answer for the codes a and b is at 3 * a + b.
 const AND: [u8; 9] = [0, 0, 0, 0, 1, 2, 0, 2, 2];
@@ -61,15 +61,4 @@ pub fn lookup_mux(s: u8, b: u8, c: u8) -> u8
 {
     let place = (9 * s + 3 * b + c) as usize;
     MUX[place]
-}
-
-// Every number above 1 is X, and so is its inverse.
-pub fn invert(a: u8) -> u8
-    ensures { λ r. ⌜ r ≡ codeOf (not3 (valueOf a)) ⌝ }
-{
-    match a {
-        0 => 1,
-        1 => 0,
-        _ => 2,
-    }
 }

@@ -1,66 +1,26 @@
 -- `blockfile::read_row` gives the fields of the row's eight bytes.
 -- Assumes nothing.
-use Rattle.blockfile.proofs.RowCodeLaws.{row-read}
+use mathlib.Core.Path.{ap, _∙_}
+use Rattle.blockfile.specs.RowCode.{fieldsFrom}
 use borrow.Author.Needs.{needs}
 use Rattle.blockfile.proofs.read_row.Statement.{statement}
 use Rattle.blockfile.proofs.read_row.Tie as tie
+use Rattle.blockfile.proofs.read_row.Reads as reads
+use Rattle.blockfile.proofs.read_row.Lts as lts
+use Rattle.blockfile.proofs.read_at.Reads as read-at-reads
+use Rattle.blockfile.proofs.row_place.Reads as row-place-reads
 
--- src/lib.rt:39:9
+-- src/lib.rt:66:9
 row-place-requires : tie.Need-row-place-requires
 row-place-requires c κs = search needs
 
--- src/lib.rt:40:18
-add-second : tie.Need-add-second
-add-second c = search needs
+-- src/lib.rt:67:5
+read-at-requires : tie.Need-read-at-requires
+read-at-requires c κs = search needs
 
--- src/lib.rt:41:16
-add-at-a : tie.Need-add-at-a
-add-at-a c = search needs
-
--- src/lib.rt:42:16
-add-at-b : tie.Need-add-at-b
-add-at-b c = search needs
-
--- src/lib.rt:43:16
-add-at-c : tie.Need-add-at-c
-add-at-c c = search needs
-
--- src/lib.rt:44:16
-shared-slice-read-kind : tie.Need-shared-slice-read-kind
-shared-slice-read-kind c = search needs
-
--- src/lib.rt:45:17
-shared-slice-read-reset : tie.Need-shared-slice-read-reset
-shared-slice-read-reset c = search needs
-
--- src/lib.rt:46:9
-field-at-requires : tie.Need-field-at-requires
-field-at-requires c κs = search needs
-
--- src/lib.rt:47:9
-field-at-requires-2 : tie.Need-field-at-requires-2
-field-at-requires-2 c κs = search needs
-
--- src/lib.rt:48:9
-field-at-requires-3 : tie.Need-field-at-requires-3
-field-at-requires-3 c κs = search needs
-
--- src/lib.rt:35:1
+-- src/lib.rt:62:1
 returns : tie.Need-returns
-returns c = row-read (c .before .before .before .before .before .before .before .args .file .now) (c .before .before .before .before .before .before .before .args .row) (c .before .before .before .before .before .row-place .result) (c .before .before .field-at .result) (c .before .field-at2 .result) (c .field-at3 .result) (c .before .before .before .before .before .row-place .ensures) (c .before .before .field-at .ensures) (c .before .field-at2 .ensures) (c .field-at3 .ensures)
+returns c = ((c .read-at .ensures .0) ∙ ap (fieldsFrom (c .before .before .before .args .file .now)) (c .before .row-place .ensures), (c .read-at .ensures .1))
 
 pub read-row-spec : {M : Type 1} → statement M
-read-row-spec =
-    tie.close
-    (tie.spec
-    row-place-requires
-    add-second
-    add-at-a
-    add-at-b
-    add-at-c
-    shared-slice-read-kind
-    shared-slice-read-reset
-    field-at-requires
-    field-at-requires-2
-    field-at-requires-3
-    returns)
+read-row-spec = tie.close (tie.spec row-place-requires read-at-requires returns)

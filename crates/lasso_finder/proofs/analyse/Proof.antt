@@ -1,6 +1,5 @@
 -- `analyse` meets its contract: what each stage hands on is what the next asks.
 -- Assumes nothing.
-use mathlib.Core.Path.{_∙_}
 use Rattle.lasso_finder.proofs.AnalysisLaws.{analysed-never, stem-is, cycle-is, lassoed, phases-from, phases-to, entries-ask, analysed-found}
 use borrow.Author.Needs.{needs}
 use Rattle.lasso_finder.proofs.analyse.Statement.{statement}

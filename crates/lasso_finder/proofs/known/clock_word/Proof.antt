@@ -5,8 +5,7 @@ use mathlib.Core.Path.{_≡_, ap, _∙_}
 use Prim.Native.Nat.{_-_, _≤_}
 use Rattle.lasso.specs.ClockEntries.{clockWord}
 use Rattle.lasso_finder.specs.Stages.{phaseValue}
-use Rattle.lasso_finder.proofs.KnownLaws.{word-none, word-more, word-small, sum-small, phase-less, phase-asks, phase-read}
-use borrow.Author.Needs.{needs}
+use Rattle.lasso_finder.proofs.KnownLaws.{word-none, word-more, word-small, sum-small, phase-less, phase-read}
 use Rattle.lasso_finder.proofs.known.clock_word.Statement.{statement}
 use Rattle.lasso_finder.proofs.known.clock_word.Tie as tie
 use Rattle.lasso_finder.proofs.known.clock_word.Reads as reads
@@ -38,7 +37,7 @@ add-register-code c = let h = phase-less (c .before .before .before .pre) (c .be
 
 -- src/known.rt:35:13
 register-code-requires : tie.Need-register-code-requires Inv-phases μ-phases
-register-code-requires c κs = phase-asks (c .before .before .before .pre) (c .before .phases .k)
+register-code-requires c κs = let h = phase-less (c .before .before .before .pre) (c .before .phases .k) in (omega arith, ((c .before .before .before .pre .register), (c .before .before .before .pre .room)))
 
 -- src/known.rt:36:23
 bit-at-requires : tie.Need-bit-at-requires Inv-phases μ-phases

@@ -1,7 +1,7 @@
 -- `best_phases` meets its contract. The loop's invariant: `best` is the best of 1 to `tried`, and `most` its count.
 -- Assumes nothing.
 use native.Mathlib.Omega.{arith}
-use mathlib.Core.Path.{_≡_, refl, ap, _∙_}
+use mathlib.Core.Path.{_≡_, ap, _∙_}
 use Prim.Native.Nat.{_-_, _≤_}
 use Rattle.netlist.specs.Limits.{mostPhases}
 use Rattle.lasso.specs.Generators.{usedCount, bestPhaseCount}

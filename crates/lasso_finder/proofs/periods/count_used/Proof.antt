@@ -1,7 +1,7 @@
 -- `count_used` meets its contract. The loop's invariant: `used` counts the first i rows, so it is i at most.
 -- Assumes nothing.
 use native.Mathlib.Omega.{arith}
-use mathlib.Core.Path.{_≡_, refl, sym, ap, _∙_, subst}
+use mathlib.Core.Path.{_≡_, refl, ap, _∙_}
 use mathlib.Core.Bool.{Bool, cond}
 use Prim.Native.Nat.{ℕ, _-_, _≤_}
 use Rattle.memory.specs.Fields.{byteAt}

@@ -9,7 +9,6 @@ use borrow.Author.Tests.{not-true, not-false}
 use Rattle.lasso_finder.specs.Stages.{holdsAs, repeatsIn}
 use Rattle.lasso_finder.proofs.WordLaws.{allBelow-more, allBelow-no}
 use Rattle.lasso_finder.proofs.PeriodLaws.{mod-next}
-use borrow.Author.Needs.{needs}
 use Rattle.lasso_finder.proofs.periods.repeats.Statement.{statement}
 use Rattle.lasso_finder.proofs.periods.repeats.Tie as tie
 use Rattle.lasso_finder.proofs.periods.repeats.Reads as reads

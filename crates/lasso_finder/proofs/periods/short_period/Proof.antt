@@ -8,7 +8,6 @@ use Rattle.memory.proofs.TestLaws.{last-or}
 use Rattle.netlist.specs.Limits.{mostPhases}
 use Rattle.lasso_finder.specs.Stages.{generatorIn}
 use Rattle.lasso_finder.proofs.PeriodLaws.{period-found, period-missing}
-use borrow.Author.Needs.{needs}
 use Rattle.lasso_finder.proofs.periods.short_period.Statement.{statement}
 use Rattle.lasso_finder.proofs.periods.short_period.Tie as tie
 use Rattle.lasso_finder.proofs.periods.short_period.Reads as reads

@@ -7,14 +7,13 @@ use Rattle.netlist.specs.FileFormat.{netlistOf}
 use Rattle.netlist.specs.Limits.{lastState}
 use Rattle.lasso_finder.specs.Stages.{LassoDone}
 use Rattle.lasso_finder.proofs.SearchLaws.{Unlike, Sought, unlike-more, start-part, sought-start, sought-never, sought-next, sought-found, same-asks, repeat-is}
-use borrow.Author.Needs.{needs}
 use Rattle.lasso_finder.proofs.search.find_lasso.Statement.{statement}
 use Rattle.lasso_finder.proofs.search.find_lasso.Tie as tie
 use Rattle.lasso_finder.proofs.search.find_lasso.Reads as reads
 use Rattle.lasso_finder.proofs.search.find_lasso.Lts as lts
 use Rattle.lasso_finder.proofs.search.same_state.Reads as same-state-reads
 use Rattle.lasso_finder.proofs.states.advance.Reads as advance-reads
-use Rattle.lasso_finder.proofs.states.pack.Reads as pack-reads
+use Rattle.lasso_finder.proofs.states.start.Reads as start-reads
 use Rattle.lasso_finder.proofs.states.state_place.Reads as state-place-reads
 
 abbrev Inv-history : tie.InvT-history
@@ -30,20 +29,20 @@ abbrev μ-states : tie.MeasureT-states
 μ-states file rows work₀ registers words answer₀ m₀ work answer m = suc lastState - m
 
 -- src/search.rt:53:9
-pack-requires : tie.Need-pack-requires Inv-history μ-history Inv-states μ-states
-pack-requires c κs = ((c .before .before .before .pre .0), (omega arith, start-part (netlistOf (c .before .before .before .args .file .now)) (c .before .before .before .args .work .now) (c .before .before .before .pre .1)))
+start-requires : tie.Need-start-requires Inv-history μ-history Inv-states μ-states
+start-requires c κs = ((c .before .before .before .pre .0), start-part (netlistOf (c .before .before .before .args .file .now)) (c .before .before .before .args .work .now) (c .before .before .before .pre .1))
 
 -- src/search.rt:54:18
 add-words : tie.Need-add-words Inv-history μ-history Inv-states μ-states
-add-words c = let e = (c .before .before .pack .ensures .0) in let few = (c .before .before .before .before .before .before .pre .0 .registers) in omega arith
+add-words c = let e = (c .before .before .start .ensures .0) in let few = (c .before .before .before .before .before .before .pre .0 .registers) in omega arith
 
 -- src/search.rt:57:5
 states-holds : tie.Need-states-holds Inv-history μ-history Inv-states μ-states
-states-holds c = (sought-start (c .before .before .before .before .before .before .pre .0 .count) (c .before .before .before .before .before .before .pre .1) (c .before .before .pack .ensures .1 .0) (c .before .before .pack .ensures .1 .1), refl)
+states-holds c = (sought-start (c .before .before .before .before .before .before .pre .0 .count) (c .before .before .start .ensures .1 .0) (c .before .before .start .ensures .1 .1), refl)
 
 -- src/search.rt:58:9
 advance-requires : tie.Need-advance-requires Inv-history μ-history Inv-states μ-states
-advance-requires c κs = ((c .before .before .before .before .before .before .before .before .before .pre .0), ((c .before .before .states .inv .0 .from), (omega arith, (c .before .before .states .inv .0 .searched))))
+advance-requires c κs = (((c .before .before .before .before .before .before .before .before .before .pre .0), (c .before .before .before .before .before .start .ensures .0)), ((c .before .before .states .inv .0 .from), (omega arith, (c .before .before .states .inv .0 .searched))))
 
 -- src/search.rt:59:13
 state-place-requires : tie.Need-state-place-requires Inv-history μ-history Inv-states μ-states
@@ -59,7 +58,7 @@ state-place-requires-2 c κs = omega arith
 
 -- src/search.rt:63:16
 same-state-requires : tie.Need-same-state-requires Inv-history μ-history Inv-states μ-states
-same-state-requires c κs = same-asks (c .before .before .before .before .before .before .before .before .before .before .before .before .before .before .before .before .before .pre .0) (c .before .before .before .before .before .before .before .before .before .states-test .taken) (c .before .before .history-test .taken) (c .before .before .before .before .before .before .before .advance .ensures .1) (c .before .before .before .before .before .before .before .before .before .before .before .before .before .pack .ensures .0) refl (c .before .state-place2 .ensures) (c .before .before .before .before .state-place .ensures)
+same-state-requires c κs = same-asks (c .before .before .before .before .before .before .before .before .before .before .before .before .before .before .before .before .before .pre .0) (c .before .before .before .before .before .before .before .before .before .states-test .taken) (c .before .before .history-test .taken) (c .before .before .before .before .before .before .before .advance .ensures .1) (c .before .before .before .before .before .before .before .before .before .before .before .before .before .start .ensures .0) refl (c .before .state-place2 .ensures) (c .before .before .before .before .state-place .ensures)
 
 -- src/search.rt:66:28
 sub-t22 : tie.Need-sub-t22 Inv-history μ-history Inv-states μ-states
@@ -75,7 +74,7 @@ history-less c = omega arith
 
 -- src/search.rt:61:9
 history-again : tie.Need-history-again Inv-history μ-history Inv-states μ-states
-history-again c = (omega arith, ((c .before .before .before .before .before .history .inv .1 .0), unlike-more (netlistOf (c .before .before .before .before .before .before .before .before .before .before .before .before .before .before .before .before .before .before .before .args .file .now)) (c .before .before .before .before .before .before .before .before .before .before .before .before .states .m) (c .before .before .before .before .before .history .k) (c .before .before .before .before .before .history .inv .1 .1) (sym (repeat-is (c .before .before .before .before .before .before .before .before .before .before .before .before .before .before .before .before .before .before .before .pre .0) (c .before .before .before .before .before .before .before .before .before .before .before .states-test .taken) (c .before .before .before .before .history-test .taken) (c .before .before .before .before .before .before .before .before .before .advance .ensures .1) (c .before .before .before .before .before .before .before .before .before .before .before .before .before .before .before .pack .ensures .0) refl (c .before .before .before .state-place2 .ensures) (c .before .before .before .before .before .before .state-place .ensures) (λ x. omega (arith, (c .before .before .before .before .before .before .before .slice-known3 .given) x)) (c .before .same-state .result) (c .before .same-state .ensures)) ∙ (c .if1 .left))))
+history-again c = (omega arith, ((c .before .before .before .before .before .history .inv .1 .0), unlike-more (netlistOf (c .before .before .before .before .before .before .before .before .before .before .before .before .before .before .before .before .before .before .before .args .file .now)) (c .before .before .before .before .before .before .before .before .before .before .before .before .states .m) (c .before .before .before .before .before .history .k) (c .before .before .before .before .before .history .inv .1 .1) (sym (repeat-is (c .before .before .before .before .before .before .before .before .before .before .before .before .before .before .before .before .before .before .before .pre .0) (c .before .before .before .before .before .before .before .before .before .before .before .states-test .taken) (c .before .before .before .before .history-test .taken) (c .before .before .before .before .before .before .before .before .before .advance .ensures .1) (c .before .before .before .before .before .before .before .before .before .before .before .before .before .before .before .start .ensures .0) refl (c .before .before .before .state-place2 .ensures) (c .before .before .before .before .before .before .state-place .ensures) (λ x. omega (arith, (c .before .before .before .before .before .before .before .slice-known3 .given) x)) (c .before .same-state .result) (c .before .same-state .ensures)) ∙ (c .if1 .left))))
 
 -- src/search.rt:72:9
 add-m : tie.Need-add-m Inv-history μ-history Inv-states μ-states
@@ -87,23 +86,23 @@ states-less c = omega arith
 
 -- src/search.rt:57:5
 states-again : tie.Need-states-again Inv-history μ-history Inv-states μ-states
-states-again c = (sought-next (c .before .before .before .before .before .before .before .before .before .before .before .before .before .before .before .pre .0 .count) (c .before .before .before .before .before .before .before .before .before .before .before .before .before .before .before .pre .1) (c .before .before .before .before .before .before .before .before .before .before .before .pack .ensures .1 .0) (c .before .before .before .before .before .before .before .before .states .inv .0) (c .before .before .before .before .before .before .before .states-test .taken) (c .before .before .before .before .before .advance .ensures .0) (c .before .before .before .before .before .advance .ensures .1) (λ n h. (c .before .history .inv .1 .1) n (omega arith)), (c .before .history .inv .1 .0) ∙ (c .before .before .before .before .before .before .before .before .states .inv .1))
+states-again c = (sought-next (c .before .before .before .before .before .before .before .before .before .before .before .before .before .before .before .pre .0 .count) (c .before .before .before .before .before .before .before .before .before .before .before .start .ensures .1 .0) (c .before .before .before .before .before .before .before .before .states .inv .0) (c .before .before .before .before .before .before .before .states-test .taken) (c .before .before .before .before .before .advance .ensures .0) (c .before .before .before .before .before .advance .ensures .1) (λ n h. (c .before .history .inv .1 .1) n (omega arith)), (c .before .history .inv .1 .0) ∙ (c .before .before .before .before .before .before .before .before .states .inv .1))
 
 -- src/search.rt:48:1
 same-length : tie.Need-same-length Inv-history μ-history Inv-states μ-states
-same-length c = (c .before .states .inv .0 .kept .long) ∙ (c .before .before .before .before .pack .ensures .1 .0 .long)
+same-length c = (c .before .states .inv .0 .kept .long) ∙ (c .before .before .before .before .start .ensures .1 .0 .long)
 
 -- src/search.rt:48:1
 returns : tie.Need-returns Inv-history μ-history Inv-states μ-states
-returns c = subst (LassoDone (netlistOf (c .before .before .before .before .before .before .before .before .args .file .now)) (c .before .before .before .before .before .before .before .before .args .work .now) (c .before .states .work)) (sym (c .before .states .inv .1)) (sought-never (c .before .before .before .before .before .before .before .before .pre .0 .count) (c .before .before .before .before .before .before .before .before .pre .1) (c .before .before .before .before .pack .ensures .1 .0) (c .before .states .inv .0) (omega arith))
+returns c = subst (LassoDone (netlistOf (c .before .before .before .before .before .before .before .before .args .file .now)) (c .before .before .before .before .before .before .before .before .args .work .now) (c .before .states .work)) (sym (c .before .states .inv .1)) (sought-never (c .before .before .before .before .before .before .before .before .pre .0 .count) (c .before .before .before .before .start .ensures .1 .0) (c .before .states .inv .0) (omega arith))
 
 -- src/search.rt:48:1
 same-length-2 : tie.Need-same-length-2 Inv-history μ-history Inv-states μ-states
-same-length-2 c = (c .before .before .before .before .before .before .before .before .before .advance .ensures .0 .long) ∙ (c .before .before .before .before .before .before .before .before .before .before .before .before .states .inv .0 .kept .long) ∙ (c .before .before .before .before .before .before .before .before .before .before .before .before .before .before .before .pack .ensures .1 .0 .long)
+same-length-2 c = (c .before .before .before .before .before .before .before .before .before .advance .ensures .0 .long) ∙ (c .before .before .before .before .before .before .before .before .before .before .before .before .states .inv .0 .kept .long) ∙ (c .before .before .before .before .before .before .before .before .before .before .before .before .before .before .before .start .ensures .1 .0 .long)
 
 -- src/search.rt:48:1
 returns-2 : tie.Need-returns-2 Inv-history μ-history Inv-states μ-states
-returns-2 c = sought-found (c .before .before .before .before .before .before .before .before .before .before .before .before .before .before .before .before .before .before .before .pre .0 .count) (c .before .before .before .before .before .before .before .before .before .before .before .before .before .before .before .before .before .before .before .pre .1) (c .before .before .before .before .before .before .before .before .before .before .before .before .before .before .before .pack .ensures .1 .0) (c .before .before .before .before .before .before .before .before .before .before .before .before .states .inv .0) (c .before .before .before .before .before .before .before .before .before .before .before .states-test .taken) (c .before .before .before .before .before .before .before .before .before .advance .ensures .0) (c .before .before .before .before .before .before .before .before .before .advance .ensures .1) (c .before .before .before .before .before .history .k) (c .before .before .before .before .history-test .taken) (c .before .before .before .before .before .history .inv .1 .1) (sym (repeat-is (c .before .before .before .before .before .before .before .before .before .before .before .before .before .before .before .before .before .before .before .pre .0) (c .before .before .before .before .before .before .before .before .before .before .before .states-test .taken) (c .before .before .before .before .history-test .taken) (c .before .before .before .before .before .before .before .before .before .advance .ensures .1) (c .before .before .before .before .before .before .before .before .before .before .before .before .before .before .before .pack .ensures .0) refl (c .before .before .before .state-place2 .ensures) (c .before .before .before .before .before .before .state-place .ensures) (λ x. omega (arith, (c .before .before .before .before .before .before .before .slice-known3 .given) x)) (c .before .same-state .result) (c .before .same-state .ensures)) ∙ (c .if1 .taken))
+returns-2 c = sought-found (c .before .before .before .before .before .before .before .before .before .before .before .before .before .before .before .before .before .before .before .pre .0 .count) (c .before .before .before .before .before .before .before .before .before .before .before .before .before .before .before .start .ensures .1 .0) (c .before .before .before .before .before .before .before .before .before .before .before .before .states .inv .0) (c .before .before .before .before .before .before .before .before .before .before .before .states-test .taken) (c .before .before .before .before .before .before .before .before .before .advance .ensures .0) (c .before .before .before .before .before .before .before .before .before .advance .ensures .1) (c .before .before .before .before .before .history .k) (c .before .before .before .before .history-test .taken) (c .before .before .before .before .before .history .inv .1 .1) (sym (repeat-is (c .before .before .before .before .before .before .before .before .before .before .before .before .before .before .before .before .before .before .before .pre .0) (c .before .before .before .before .before .before .before .before .before .before .before .states-test .taken) (c .before .before .before .before .history-test .taken) (c .before .before .before .before .before .before .before .before .before .advance .ensures .1) (c .before .before .before .before .before .before .before .before .before .before .before .before .before .before .before .start .ensures .0) refl (c .before .before .before .state-place2 .ensures) (c .before .before .before .before .before .before .state-place .ensures) (λ x. omega (arith, (c .before .before .before .before .before .before .before .slice-known3 .given) x)) (c .before .same-state .result) (c .before .same-state .ensures)) ∙ (c .if1 .taken))
 
 pub find-lasso-spec : {M : Type 1} → statement M
 find-lasso-spec =
@@ -113,7 +112,7 @@ find-lasso-spec =
     μ-history
     Inv-states
     μ-states
-    pack-requires
+    start-requires
     add-words
     states-holds
     advance-requires

@@ -4,11 +4,9 @@ use native.Mathlib.Omega.{arith}
 use mathlib.Core.Bool.{true}
 use mathlib.Core.Path.{_≡_, refl, sym, ap, _∙_}
 use Prim.Native.Nat.{ℕ, _-_, _≤_}
-use borrow.Author.Tests.{eq-eqb, ne-eqb}
 use Rattle.memory.specs.Lists.{allBelow}
 use Rattle.lasso_finder.specs.Stages.{sameWord}
 use Rattle.lasso_finder.proofs.WordLaws.{allBelow-more, allBelow-no, words-differ, words-agree}
-use borrow.Author.Needs.{needs}
 use Rattle.lasso_finder.proofs.search.same_state.Statement.{statement}
 use Rattle.lasso_finder.proofs.search.same_state.Tie as tie
 use Rattle.lasso_finder.proofs.search.same_state.Reads as reads

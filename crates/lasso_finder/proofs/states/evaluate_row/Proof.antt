@@ -1,64 +1,63 @@
 -- `evaluate_row` meets its contract: what it puts is the row's value in the run.
 -- Assumes nothing.
 use native.Mathlib.Omega.{arith}
-use mathlib.Core.Path.{sym}
-use Prim.Native.Nat.{_+_, _*_}
-use lib.ListN.{length-set}
+use mathlib.Core.Path.{sym, ap, _∙_}
+use Rattle.blockfile.specs.RowCode.{fieldsFrom}
 use Rattle.lasso_finder.proofs.StepLaws.{place-early, row-small, read-asks, number-small, number-next, row-asks, evaluated-more}
 use borrow.Author.Needs.{needs}
 use Rattle.lasso_finder.proofs.states.evaluate_row.Statement.{statement}
 use Rattle.lasso_finder.proofs.states.evaluate_row.Tie as tie
 use Rattle.lasso_finder.proofs.states.evaluate_row.Reads as reads
 use Rattle.lasso_finder.proofs.states.evaluate_row.Lts as lts
-use Rattle.blockfile.proofs.read_row.Reads as read-row-reads
+use Rattle.blockfile.proofs.read_at.Reads as read-at-reads
 use Rattle.lasso_finder.proofs.states.count_register.Reads as count-register-reads
 use Rattle.lasso_finder.proofs.states.row_value.Reads as row-value-reads
 
--- src/states.rt:119:9
-read-row-requires : tie.Need-read-row-requires
-read-row-requires c κs = read-asks (c .before .before .pre .0)
+-- src/states.rt:139:9
+read-at-requires : tie.Need-read-at-requires
+read-at-requires c κs = let h = read-asks (c .before .before .pre .0 .0) in let e = (c .before .before .pre .0 .1) in omega arith
 
--- src/states.rt:120:26
+-- src/states.rt:140:26
 mul-base : tie.Need-mul-base
 mul-base c = let h = (c .before .before .before .pre .1 .0) in omega arith
 
--- src/states.rt:120:16
+-- src/states.rt:140:16
 add-base : tie.Need-add-base
 add-base c = let h = (c .before .before .before .pre .1 .0) in omega arith
 
--- src/states.rt:121:9
+-- src/states.rt:141:9
 row-value-requires : tie.Need-row-value-requires
-row-value-requires c κs = row-asks (c .before .before .before .before .pre .0) (c .before .read-row .result) (c .before .read-row .ensures .0) (c .before .before .before .before .pre .1 .1) (sym (place-early (c .before .before .before .before .args .t) (c .before .before .before .before .pre .1 .0))) (c .before .before .before .before .pre .1 .0)
+row-value-requires c κs = row-asks (c .before .before .before .before .pre .0 .0) (c .before .read-at .result) ((c .before .read-at .ensures .0) ∙ ap (fieldsFrom (c .before .before .before .before .args .file .now)) (c .before .before .before .before .pre .0 .1)) (c .before .before .before .before .pre .1 .1) (sym (place-early (c .before .before .before .before .args .t) (c .before .before .before .before .pre .1 .0))) (c .before .before .before .before .pre .1 .0)
 
--- src/states.rt:122:17
-add-place : tie.Need-add-place
-add-place c = let h = row-small (c .before .before .before .before .before .pre .0) in omega arith
+-- src/states.rt:142:14
+add-at : tie.Need-add-at
+add-at c = let h = row-small (c .before .before .before .before .before .pre .0 .0) in omega arith
 
--- src/states.rt:123:5
+-- src/states.rt:143:5
 slice-write-work : tie.Need-slice-write-work
-slice-write-work c = let h = row-small (c .before .before .before .before .before .pre .0) in let r = (c .before .before .before .before .before .pre .1 .1 .coded .room) in omega arith
+slice-write-work c = let h = row-small (c .before .before .before .before .before .pre .0 .0) in let r = (c .before .before .before .before .before .pre .1 .1 .coded .room) in omega arith
 
--- src/states.rt:124:5
+-- src/states.rt:144:5
 count-register-requires : tie.Need-count-register-requires
-count-register-requires c κs = let h = number-small (c .before .before .before .before .before .pre .0) in omega arith
+count-register-requires c κs = let h = number-small (c .before .before .before .before .before .pre .0 .0) in omega arith
 
--- src/states.rt:114:1
+-- src/states.rt:126:1
 same-length : tie.Need-same-length
 same-length c = search needs
 
--- src/states.rt:114:1
+-- src/states.rt:126:1
 returns : tie.Need-returns
-returns c = (number-next (c .before .before .before .before .before .before .pre .0) (c .before .before .before .read-row .result) (c .before .before .before .read-row .ensures .0) (c .count-register .result) (c .count-register .ensures), evaluated-more (c .before .before .before .before .before .before .pre .0) (c .before .before .before .read-row .result) (c .before .before .before .read-row .ensures .0) (c .before .before .before .before .before .before .pre .1 .1) (sym (place-early (c .before .before .before .before .before .before .args .t) (c .before .before .before .before .before .before .pre .1 .0))) (c .before .row-value .result) (c .before .before .before .before .before .before .pre .1 .0) (c .before .row-value .ensures))
+returns c = (number-next (c .before .before .before .before .before .before .pre .0 .0) (c .before .before .before .read-at .result) ((c .before .before .before .read-at .ensures .0) ∙ ap (fieldsFrom (c .before .before .before .before .before .before .args .file .now)) (c .before .before .before .before .before .before .pre .0 .1)) (c .count-register .result) (c .count-register .ensures), evaluated-more (c .before .before .before .before .before .before .pre .0 .0) (c .before .before .before .read-at .result) ((c .before .before .before .read-at .ensures .0) ∙ ap (fieldsFrom (c .before .before .before .before .before .before .args .file .now)) (c .before .before .before .before .before .before .pre .0 .1)) (c .before .before .before .before .before .before .pre .1 .1) (sym (place-early (c .before .before .before .before .before .before .args .t) (c .before .before .before .before .before .before .pre .1 .0))) (c .before .row-value .result) (c .before .before .before .before .before .before .pre .1 .0) (c .before .row-value .ensures))
 
 pub evaluate-row-spec : {M : Type 1} → statement M
 evaluate-row-spec =
     tie.close
     (tie.spec
-    read-row-requires
+    read-at-requires
     mul-base
     add-base
     row-value-requires
-    add-place
+    add-at
     slice-write-work
     count-register-requires
     same-length

@@ -2,7 +2,6 @@
 -- Assumes nothing.
 use Rattle.lasso_finder.proofs.StateLaws.{register-asks, and-asks, xor-asks, mux-asks, output-asks, row-register, row-and, row-xor, row-mux, row-output, row-rest}
 use mathlib.Core.Path.{refl}
-use borrow.Author.Needs.{needs}
 use Rattle.lasso_finder.proofs.states.row_value.Statement.{statement}
 use Rattle.lasso_finder.proofs.states.row_value.Tie as tie
 use Rattle.lasso_finder.proofs.states.row_value.Reads as reads
