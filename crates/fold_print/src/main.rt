@@ -1,14 +1,17 @@
 // The printing program: one netlist file on standard input is folded with wish 0; the answers, the clock entries and the result's rows are printed, or the refusal.
 ghost use mathlib.Core.Path.{_≡_};
 ghost use lib.ListN.{length};
+use fold_core::FoldNumbers;
+use fold_core::FoldRefusal;
 use fold_core::Folding;
-
-mod line;
-mod print;
+use text::out::Out;
+use text::out::to;
 
 const WISH: u32 = 0;
 
 const CLOCK_ENTRIES: usize = 256;
+
+const OUTPUT: i32 = 1;
 
 // One byte more than a file may have: a longer input is seen, and refused with 1.
 fn file_room() -> [u8; 65537]
@@ -17,34 +20,47 @@ fn file_room() -> [u8; 65537]
     [0; 65537]
 }
 
-fn result_room() -> [u8; 65536]
-    ensures { λ r. ⌜ 65536 ≡ length r ⌝ }
-{
-    [0; 65536]
-}
-
+// Work for a fold.
 fn work_room() -> [u8; 49152]
     ensures { λ r. ⌜ 49152 ≡ length r ⌝ }
 {
     [0; 49152]
 }
 
-fn fold_and_print(file: &[u8], result: &mut [u8], work: &mut [u8]) {
-    let answer = fold_core::fold_core(file, WISH, result, work, CLOCK_ENTRIES);
-    match answer {
-        Folding::Done(numbers) => {
-            print::print_numbers(numbers);
-            print::print_clocks(work, numbers.used);
-            print::print_rows(result, numbers.after);
-        }
-        Folding::Refused(refused) => print::print_refusal(refused),
+// The answers, the clock entries and the rows.
+fn put_fold(buffer: &mut [u8], numbers: FoldNumbers, result: &[u8], work: &[u8]) -> Out {
+    let answered = listing::folds::put_numbers(buffer, to(OUTPUT), numbers);
+    let clocked = listing::folds::put_entries(buffer, answered, work, numbers.used);
+    listing::rows::put_rows(buffer, clocked, result, numbers.after as usize)
+}
+
+// The line of a refusal.
+fn put_refused(buffer: &mut [u8], refusal: FoldRefusal) -> Out {
+    let number = fold_core::number_of(refusal);
+    let place = fold_core::place_of(refusal);
+    listing::refusals::put_refusal(buffer, to(OUTPUT), number, place)
+}
+
+// The fold in the lent memory, and its text.
+fn put_answer(buffer: &mut [u8], file: &[u8], result: &mut [u8], work: &mut [u8]) -> Out {
+    match fold_core::fold_core(file, WISH, result, work, CLOCK_ENTRIES) {
+        Folding::Done(numbers) => put_fold(buffer, numbers, result, work),
+        Folding::Refused(refusal) => put_refused(buffer, refusal),
     }
 }
 
+// The text is written.
+fn fold_and_print(buffer: &mut [u8], file: &[u8], result: &mut [u8], work: &mut [u8]) {
+    let out = put_answer(buffer, file, result, work);
+    text::out::flush(buffer, out);
+}
+
+// Standard input is read.
 fn main() {
     let mut input = file_room();
     let size = io::read_full(0, &mut input);
-    let mut result = result_room();
+    let mut buffer = io::large_buffer();
+    let mut result = io::large_buffer();
     let mut work = work_room();
-    fold_and_print(&input[..size], &mut result, &mut work);
+    fold_and_print(&mut buffer, &input[..size], &mut result, &mut work);
 }

@@ -1,0 +1,90 @@
+// Fold's answers and clock entries as lines of text.
+ghost use Prim.Native.Nat.{_+_, _≤_};
+ghost use lib.ListN.{length};
+use fold_core::FoldNumbers;
+use text::out::Out;
+use text::out::put;
+use text::out::put_pair;
+
+// Where the packed clock entries begin in the work memory; each has eight bytes.
+const ENTRIES: usize = 16384;
+
+// A clock entry.
+pub struct Entry {
+    pub label: u32,
+    pub period: u32,
+    pub word: u32,
+    pub ones: u32,
+}
+
+// The entry that is packed at `place`.
+fn entry_at(work: &[u8], place: usize) -> Entry
+    requires { ⌜ place + 8 ≤ length (now work) ⌝ }
+{
+    let period_at = place + 2;
+    let word_at = place + 3;
+    let ones_at = place + 4;
+    Entry {
+        label: memory::read_u16(work, place),
+        period: memory::read_u8(work, period_at),
+        word: memory::read_u8(work, word_at),
+        ones: memory::read_u32(work, ones_at),
+    }
+}
+
+// Entry number `index` in the work memory of a fold; zeros past the end.
+pub fn entry_of(work: &[u8], index: u32) -> Entry {
+    let place = ENTRIES + 8 * index as usize;
+    let end = place + 8;
+    if end <= work.len() {
+        return entry_at(work, place);
+    }
+    Entry {
+        label: 0,
+        period: 0,
+        word: 0,
+        ones: 0,
+    }
+}
+
+// The line of the answers.
+pub fn put_numbers(buffer: &mut [u8], out: Out, numbers: FoldNumbers) -> Out {
+    let stem = numbers.stem as usize;
+    let cycle = numbers.cycle as usize;
+    let phases = numbers.phases as usize;
+    let used = numbers.used as usize;
+    let before = numbers.before as usize;
+    let after = numbers.after as usize;
+    let lasso = put_pair(buffer, out, b"stem ", stem, b" cycle ", cycle);
+    let clocked = put_pair(buffer, lasso, b" phases ", phases, b" used ", used);
+    let line = put_pair(buffer, clocked, b" rows ", before, b" to ", after);
+    put(buffer, line, b"\n")
+}
+
+// A clock's label and period.
+pub fn put_clock(buffer: &mut [u8], out: Out, entry: Entry) -> Out {
+    let label = entry.label as usize;
+    let period = entry.period as usize;
+    put_pair(buffer, out, b"clock ", label, b" period ", period)
+}
+
+// The line of a clock entry.
+fn put_entry(buffer: &mut [u8], out: Out, entry: Entry) -> Out {
+    let word = entry.word as usize;
+    let ones = entry.ones as usize;
+    let named = put_clock(buffer, out, entry);
+    let line = put_pair(buffer, named, b" word ", word, b" ones ", ones);
+    put(buffer, line, b"\n")
+}
+
+// The lines of the first `used` entries.
+pub fn put_entries(buffer: &mut [u8], out: Out, work: &[u8], used: u32) -> Out {
+    let mut now = out;
+    let mut index: u32 = 0;
+    'entries: while index < used {
+        let entry = entry_of(work, index);
+        now = put_entry(buffer, now, entry);
+        index += 1;
+    }
+    now
+}

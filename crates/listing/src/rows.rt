@@ -1,0 +1,89 @@
+// The rows of a netlist file as lines of text; a row is read wherever it is asked for, with zeros past the end.
+ghost use mathlib.Core.Path.{_≡_};
+ghost use Prim.Native.Nat.{_*_, _≤_};
+ghost use lib.ListN.{length};
+ghost use Rattle.netlist.specs.FileFormat.{blocksFor};
+use blockfile::Fields;
+use text::bytes::get;
+use text::bytes::wide;
+use text::out::Out;
+use text::out::put;
+use text::out::put_pair;
+
+pub const MOST_ROWS: usize = 8064;
+
+// The number of the last block; 0 if there is no block.
+pub fn last_block(file: &[u8]) -> usize
+    ensures { λ r. ⌜ 512 * r ≤ length (now (file .entry)) ⌝ }
+{
+    let blocks = file.len() / 512;
+    if blocks == 0 { 0 } else { blocks - 1 }
+}
+
+// How many rows it has, if its blocks are right: 63 in each block but the last.
+pub fn row_count(file: &[u8]) -> usize {
+    let last = last_block(file);
+    let at = 512 * last + 2;
+    63 * last + wide(get(file, at))
+}
+
+// The bytes of a file with this many rows.
+pub fn file_bytes(rows: u32) -> usize
+    ensures { λ r. ⌜ r ≡ 512 * blocksFor rows ⌝ }
+{
+    let blocks = (rows as usize + 62) / 63;
+    512 * blocks
+}
+
+// The fields of a row.
+pub fn fields_of(file: &[u8], row: usize) -> Fields {
+    if row < MOST_ROWS {
+        let place = blockfile::row_place(row);
+        let end = place + 8;
+        if end <= file.len() {
+            return blockfile::read_row(file, row);
+        }
+    }
+    Fields {
+        kind: 0,
+        reset: 0,
+        a: 0,
+        b: 0,
+        c: 0,
+    }
+}
+
+// The line of a row: number, kind, reset, a, b, c.
+pub fn put_row(buffer: &mut [u8], out: Out, file: &[u8], row: usize) -> Out {
+    let fields = fields_of(file, row);
+    let kind = wide(fields.kind);
+    let reset = wide(fields.reset);
+    let kinded = put_pair(buffer, out, b"", row, b" ", kind);
+    let operand = put_pair(buffer, kinded, b" ", reset, b" ", fields.a);
+    let line = put_pair(buffer, operand, b" ", fields.b, b" ", fields.c);
+    put(buffer, line, b"\n")
+}
+
+// The lines of the first `rows` rows.
+pub fn put_rows(buffer: &mut [u8], out: Out, file: &[u8], rows: usize) -> Out {
+    let mut now = out;
+    let mut row = 0;
+    'rows: while row < rows {
+        now = put_row(buffer, now, file, row);
+        row += 1;
+    }
+    now
+}
+
+// The name of a kind.
+pub fn put_kind(buffer: &mut [u8], out: Out, kind: u8) -> Out {
+    match kind {
+        0 => put(buffer, out, b"constant"),
+        1 => put(buffer, out, b"input"),
+        2 => put(buffer, out, b"register"),
+        3 => put(buffer, out, b"AND"),
+        4 => put(buffer, out, b"XOR"),
+        5 => put(buffer, out, b"MUX"),
+        _ => put(buffer, out, b"output"),
+    }
+}

@@ -1,0 +1,245 @@
+// Fold, its answers and clocks as lines, and its clocks drawn.
+ghost use mathlib.Core.Path.{_≡_};
+ghost use lib.ListN.{length};
+use crate::causes::refuse;
+use crate::outcome::OUTPUT;
+use crate::outcome::Outcome;
+use crate::outcome::fail_at;
+use crate::outcome::finish;
+use fold_core::FoldNumbers;
+use fold_core::FoldRefusal;
+use fold_core::Folding;
+use listing::folds::Entry;
+use listing::folds::entry_of;
+use listing::folds::put_clock;
+use listing::folds::put_entries;
+use listing::folds::put_numbers;
+use listing::rows::file_bytes;
+use phasefold::foreign::PfRefusal;
+use text::bytes::first;
+use text::numbers::Number;
+use text::out::Out;
+use text::out::pad;
+use text::out::put;
+use text::out::put_byte;
+use text::out::to;
+
+const CLOCK_ENTRIES: usize = 256;
+
+// Where a drawing begins in its line.
+const COLUMN: usize = 22;
+
+// Work for a fold.
+fn work_room() -> [u8; 49152]
+    ensures { λ r. ⌜ 49152 ≡ length r ⌝ }
+{
+    [0; 49152]
+}
+
+// ---- refusals
+
+// The refusal's number and place.
+fn refusal_of(refusal: FoldRefusal) -> PfRefusal {
+    let number = fold_core::number_of(refusal);
+    let place = fold_core::place_of(refusal);
+    PfRefusal {
+        number: number,
+        place: place,
+    }
+}
+
+// ---- the answers
+
+// The lines of a fold.
+fn tell_fold(buffer: &mut [u8], numbers: FoldNumbers, work: &[u8]) -> Outcome {
+    let answered = put_numbers(buffer, to(OUTPUT), numbers);
+    let out = put_entries(buffer, answered, work, numbers.used);
+    finish(buffer, out, Outcome::Done)
+}
+
+// ---- drawings
+
+// Blanks up to the drawing, in a line that began at `start`.
+fn put_to_column(buffer: &mut [u8], out: Out, start: usize) -> Out {
+    let size = std::num::wrapping_sub_usize(out.waiting, start);
+    let blanks = COLUMN - text::bytes::least(size, COLUMN);
+    pad(buffer, out, blanks)
+}
+
+// What is drawn for a phase.
+fn level_of(word: u32, phase: u32) -> u8 {
+    let bit = phase % 8;
+    let rest = word >> bit;
+    if rest % 2 == 0 { b'_' } else { b'#' }
+}
+
+// A clock's level in each phase.
+fn put_levels(buffer: &mut [u8], out: Out, word: u32, phases: u32) -> Out {
+    let mut now = out;
+    let mut phase: u32 = 0;
+    'phases: while phase < phases {
+        now = put_byte(buffer, now, level_of(word, phase));
+        phase += 1;
+    }
+    put(buffer, now, b"\n")
+}
+
+// The phases' numbers, above the drawings.
+fn put_phases(buffer: &mut [u8], out: Out, phases: u32) -> Out {
+    let named = put(buffer, out, b"phase");
+    let begun = pad(buffer, named, 17);
+    let numbers = first(b"01234567", phases as usize);
+    let numbered = put(buffer, begun, numbers);
+    put(buffer, numbered, b"\n")
+}
+
+// The line of a clock.
+fn put_drawing(buffer: &mut [u8], out: Out, entry: Entry, phases: u32) -> Out {
+    let start = out.waiting;
+    let named = put_clock(buffer, out, entry);
+    let begun = put_to_column(buffer, named, start);
+    put_levels(buffer, begun, entry.word, phases)
+}
+
+// The lines of the first `used` clocks.
+fn put_drawings(buffer: &mut [u8], out: Out, work: &[u8], phases: u32, used: u32) -> Out {
+    let mut now = out;
+    let mut index: u32 = 0;
+    'entries: while index < used {
+        let entry = entry_of(work, index);
+        now = put_drawing(buffer, now, entry, phases);
+        index += 1;
+    }
+    now
+}
+
+// All clocks, or that there is none.
+fn put_all_drawings(buffer: &mut [u8], out: Out, work: &[u8], phases: u32, used: u32) -> Out {
+    if used == 0 {
+        put(buffer, out, b"no clock\n")
+    } else {
+        put_drawings(buffer, out, work, phases, used)
+    }
+}
+
+// The drawing of a fold.
+fn tell_clocks(buffer: &mut [u8], numbers: FoldNumbers, work: &[u8]) -> Outcome {
+    let begun = put_phases(buffer, to(OUTPUT), numbers.phases);
+    let out = put_all_drawings(buffer, begun, work, numbers.phases, numbers.used);
+    finish(buffer, out, Outcome::Done)
+}
+
+// ---- the commands
+
+// What is made of a fold: its answers, with its file kept at a path or not; or its clocks drawn.
+enum Wanted {
+    Answers,
+    Kept,
+    Clocks,
+}
+
+// The result's file is written to the path.
+fn keep(result: &[u8], rows: u32, path: &[u8]) -> bool {
+    text::files::save(path, first(result, file_bytes(rows)))
+}
+
+// The lines of a fold whose file is kept.
+fn tell_kept(
+    buffer: &mut [u8],
+    numbers: FoldNumbers,
+    work: &[u8],
+    result: &[u8],
+    path: &[u8],
+) -> Outcome {
+    if keep(result, numbers.after, path) {
+        tell_fold(buffer, numbers, work)
+    } else {
+        Outcome::Failed
+    }
+}
+
+// What is wanted of an accepted fold.
+fn tell_wanted(
+    buffer: &mut [u8],
+    wanted: Wanted,
+    numbers: FoldNumbers,
+    work: &[u8],
+    result: &[u8],
+    path: &[u8],
+) -> Outcome {
+    match wanted {
+        Wanted::Answers => tell_fold(buffer, numbers, work),
+        Wanted::Kept => tell_kept(buffer, numbers, work, result, path),
+        Wanted::Clocks => tell_clocks(buffer, numbers, work),
+    }
+}
+
+// The fold in the lent memory, or the refusal.
+fn fold_into(
+    buffer: &mut [u8],
+    wanted: Wanted,
+    file: &[u8],
+    wish: u32,
+    word: &[u8],
+    path: &[u8],
+    result: &mut [u8],
+    work: &mut [u8],
+) -> Outcome {
+    match fold_core::fold_core(file, wish, result, work, CLOCK_ENTRIES) {
+        Folding::Done(numbers) => tell_wanted(buffer, wanted, numbers, work, result, path),
+        Folding::Refused(refusal) => refuse(buffer, file, refusal_of(refusal), word),
+    }
+}
+
+// The fold by this wish.
+fn fold_by(
+    buffer: &mut [u8],
+    wanted: Wanted,
+    file: &[u8],
+    wish: u32,
+    word: &[u8],
+    path: &[u8],
+) -> Outcome {
+    let mut result = io::large_buffer();
+    let mut work = work_room();
+    fold_into(
+        buffer,
+        wanted,
+        file,
+        wish,
+        word,
+        path,
+        &mut result,
+        &mut work,
+    )
+}
+
+// The wish is the number that the word has, if it is given.
+fn fold_wanted(
+    buffer: &mut [u8],
+    wanted: Wanted,
+    count: usize,
+    file: &[u8],
+    word: &[u8],
+    path: &[u8],
+) -> Outcome {
+    match crate::call::wish_of(count, word) {
+        Number::Is(wish) => fold_by(buffer, wanted, file, wish, word, path),
+        Number::Not => fail_at(buffer, word, b": the wish is not a number"),
+    }
+}
+
+// The file, the wish, and where the result is kept; the last two may be left out.
+pub fn fold(buffer: &mut [u8], count: usize, file: &[u8], word: &[u8], path: &[u8]) -> Outcome {
+    let wanted = if count < 3 {
+        Wanted::Answers
+    } else {
+        Wanted::Kept
+    };
+    fold_wanted(buffer, wanted, count, file, word, path)
+}
+
+// The file and the wish, which may be left out.
+pub fn clocks(buffer: &mut [u8], count: usize, file: &[u8], word: &[u8]) -> Outcome {
+    fold_wanted(buffer, Wanted::Clocks, count, file, word, b"")
+}

@@ -1,0 +1,57 @@
+-- `show` is safe and ends. The loop keeps the lengths of what it writes; the measure is what is left of the range.
+-- Assumes nothing.
+use Prim.Native.Nat.{_-_}
+use mathlib.Core.Path.{_≡_}
+use borrow.Author.Needs.{needs}
+use lib.ListN.{length}
+use Rattle.reference.proofs.steps.show.Statement.{statement}
+use Rattle.reference.proofs.steps.show.Tie as tie
+
+abbrev Inv-rows : tie.InvT-rows
+Inv-rows file rows values shown₀ from next₀ at₀ shown next at = (length shown ≡ length shown₀)
+
+abbrev μ-rows : tie.MeasureT-rows
+μ-rows file rows values shown₀ from next₀ at₀ shown next at = rows - at
+
+rows-holds : tie.Need-rows-holds Inv-rows μ-rows
+rows-holds c = search needs
+
+row-at-requires : tie.Need-row-at-requires Inv-rows μ-rows
+row-at-requires c κs = search needs
+
+byte-requires : tie.Need-byte-requires Inv-rows μ-rows
+byte-requires c κs = search needs
+
+show-row-requires : tie.Need-show-row-requires Inv-rows μ-rows
+show-row-requires c κs = search needs
+
+add-at : tie.Need-add-at Inv-rows μ-rows
+add-at c = search needs
+
+rows-less : tie.Need-rows-less Inv-rows μ-rows
+rows-less c = search needs
+
+rows-again : tie.Need-rows-again Inv-rows μ-rows
+rows-again c = search needs
+
+same-length : tie.Need-same-length Inv-rows μ-rows
+same-length c = search needs
+
+returns : tie.Need-returns Inv-rows μ-rows
+returns c = search needs
+
+pub show-spec : {M : Type 1} → statement M
+show-spec =
+    tie.close
+    (tie.spec
+    Inv-rows
+    μ-rows
+    rows-holds
+    row-at-requires
+    byte-requires
+    show-row-requires
+    add-at
+    rows-less
+    rows-again
+    same-length
+    returns)

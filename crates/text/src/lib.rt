@@ -1,0 +1,5 @@
+// Text for programs: bytes of a slice, numbers in decimal, buffered output, files read and written whole.
+pub mod bytes;
+pub mod files;
+pub mod numbers;
+pub mod out;
