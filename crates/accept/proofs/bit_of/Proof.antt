@@ -5,19 +5,15 @@ use borrow.Author.Needs.{needs}
 use Rattle.accept.proofs.bit_of.Statement.{statement}
 use Rattle.accept.proofs.bit_of.Tie as tie
 
--- src/lib.rt:221:21
 mul-apart : tie.Need-mul-apart
 mul-apart c = search needs
 
--- src/lib.rt:222:21
 add-moved : tie.Need-add-moved
 add-moved c = search needs
 
--- src/lib.rt:216:1
 returns : tie.Need-returns
 returns c = rw (c .if1 .taken) refl
 
--- src/lib.rt:216:1
 returns-2 : tie.Need-returns-2
 returns-2 c = rw (c .if1 .left) refl
 

@@ -8,43 +8,33 @@ use Rattle.blockfile.proofs.read_at.Reads as reads
 use Rattle.blockfile.proofs.read_at.Lts as lts
 use Rattle.blockfile.proofs.field_at.Reads as field-at-reads
 
--- src/lib.rt:40:18
 add-second : tie.Need-add-second
 add-second c = search needs
 
--- src/lib.rt:41:16
 add-at-a : tie.Need-add-at-a
 add-at-a c = search needs
 
--- src/lib.rt:42:16
 add-at-b : tie.Need-add-at-b
 add-at-b c = search needs
 
--- src/lib.rt:43:16
 add-at-c : tie.Need-add-at-c
 add-at-c c = search needs
 
--- src/lib.rt:44:16
 shared-slice-read-kind : tie.Need-shared-slice-read-kind
 shared-slice-read-kind c = search needs
 
--- src/lib.rt:45:17
 shared-slice-read-reset : tie.Need-shared-slice-read-reset
 shared-slice-read-reset c = search needs
 
--- src/lib.rt:46:9
 field-at-requires : tie.Need-field-at-requires
 field-at-requires c κs = search needs
 
--- src/lib.rt:47:9
 field-at-requires-2 : tie.Need-field-at-requires-2
 field-at-requires-2 c κs = search needs
 
--- src/lib.rt:48:9
 field-at-requires-3 : tie.Need-field-at-requires-3
 field-at-requires-3 c κs = search needs
 
--- src/lib.rt:35:1
 returns : tie.Need-returns
 returns c = row-read (c .before .before .before .before .before .before .args .file .now) (c .before .before .before .before .before .before .args .place) (c .before .before .field-at .result) (c .before .field-at2 .result) (c .field-at3 .result) (c .before .before .field-at .ensures) (c .before .field-at2 .ensures) (c .field-at3 .ensures)
 

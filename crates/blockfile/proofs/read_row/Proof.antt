@@ -10,15 +10,12 @@ use Rattle.blockfile.proofs.read_row.Lts as lts
 use Rattle.blockfile.proofs.read_at.Reads as read-at-reads
 use Rattle.blockfile.proofs.row_place.Reads as row-place-reads
 
--- src/lib.rt:66:9
 row-place-requires : tie.Need-row-place-requires
 row-place-requires c κs = search needs
 
--- src/lib.rt:67:5
 read-at-requires : tie.Need-read-at-requires
 read-at-requires c κs = search needs
 
--- src/lib.rt:62:1
 returns : tie.Need-returns
 returns c = ((c .read-at .ensures .0) ∙ ap (fieldsFrom (c .before .before .before .args .file .now)) (c .before .row-place .ensures), (c .read-at .ensures .1))
 

@@ -7,15 +7,12 @@ use borrow.Author.Needs.{needs}
 use Rattle.clock_list.proofs.byte_or_zero.Statement.{statement}
 use Rattle.clock_list.proofs.byte_or_zero.Tie as tie
 
--- src/lib.rt:26:26
 shared-slice-read-result : tie.Need-shared-slice-read-result
 shared-slice-read-result c = search needs
 
--- src/lib.rt:23:1
 returns : tie.Need-returns
 returns c = search needs
 
--- src/lib.rt:23:1
 returns-2 : tie.Need-returns-2
 returns-2 c = sym (List·getD-eq-default (now (c .before .args .work)) 0 (c .if1 .left))
 

@@ -5,131 +5,99 @@ use borrow.Author.Needs.{needs}
 use Rattle.clock_list.proofs.entry_at.Statement.{statement}
 use Rattle.clock_list.proofs.entry_at.Tie as tie
 
--- src/lib.rt:34:27
 mul-place : tie.Need-mul-place
 mul-place c = search needs
 
--- src/lib.rt:34:17
 add-place : tie.Need-add-place
 add-place c = search needs
 
--- src/lib.rt:35:21
 byte-or-zero-requires : tie.Need-byte-or-zero-requires
 byte-or-zero-requires c κs = search needs
 
--- src/lib.rt:35:21
 cast-label-low : tie.Need-cast-label-low
 cast-label-low c = search needs
 
--- src/lib.rt:36:41
 add-byte-or-zero : tie.Need-add-byte-or-zero
 add-byte-or-zero c = search needs
 
--- src/lib.rt:36:22
 byte-or-zero-requires-2 : tie.Need-byte-or-zero-requires-2
 byte-or-zero-requires-2 c κs = search needs
 
--- src/lib.rt:36:22
 cast-label-high : tie.Need-cast-label-high
 cast-label-high c = search needs
 
--- src/lib.rt:37:37
 add-byte-or-zero-2 : tie.Need-add-byte-or-zero-2
 add-byte-or-zero-2 c = search needs
 
--- src/lib.rt:37:9
 byte-or-zero-requires-3 : tie.Need-byte-or-zero-requires-3
 byte-or-zero-requires-3 c κs = search needs
 
--- src/lib.rt:38:35
 add-byte-or-zero-3 : tie.Need-add-byte-or-zero-3
 add-byte-or-zero-3 c = search needs
 
--- src/lib.rt:38:9
 byte-or-zero-requires-4 : tie.Need-byte-or-zero-requires-4
 byte-or-zero-requires-4 c κs = search needs
 
--- src/lib.rt:39:37
 add-byte-or-zero-4 : tie.Need-add-byte-or-zero-4
 add-byte-or-zero-4 c = search needs
 
--- src/lib.rt:39:18
 byte-or-zero-requires-5 : tie.Need-byte-or-zero-requires-5
 byte-or-zero-requires-5 c κs = search needs
 
--- src/lib.rt:39:18
 cast-ones-0 : tie.Need-cast-ones-0
 cast-ones-0 c = search needs
 
--- src/lib.rt:40:37
 add-byte-or-zero-5 : tie.Need-add-byte-or-zero-5
 add-byte-or-zero-5 c = search needs
 
--- src/lib.rt:40:18
 byte-or-zero-requires-6 : tie.Need-byte-or-zero-requires-6
 byte-or-zero-requires-6 c κs = search needs
 
--- src/lib.rt:40:18
 cast-ones-1 : tie.Need-cast-ones-1
 cast-ones-1 c = search needs
 
--- src/lib.rt:41:37
 add-byte-or-zero-6 : tie.Need-add-byte-or-zero-6
 add-byte-or-zero-6 c = search needs
 
--- src/lib.rt:41:18
 byte-or-zero-requires-7 : tie.Need-byte-or-zero-requires-7
 byte-or-zero-requires-7 c κs = search needs
 
--- src/lib.rt:41:18
 cast-ones-2 : tie.Need-cast-ones-2
 cast-ones-2 c = search needs
 
--- src/lib.rt:42:37
 add-byte-or-zero-7 : tie.Need-add-byte-or-zero-7
 add-byte-or-zero-7 c = search needs
 
--- src/lib.rt:42:18
 byte-or-zero-requires-8 : tie.Need-byte-or-zero-requires-8
 byte-or-zero-requires-8 c κs = search needs
 
--- src/lib.rt:42:18
 cast-ones-3 : tie.Need-cast-ones-3
 cast-ones-3 c = search needs
 
--- src/lib.rt:44:28
 mul-t14 : tie.Need-mul-t14
 mul-t14 c = search needs
 
--- src/lib.rt:44:16
 add-t15 : tie.Need-add-t15
 add-t15 c = search needs
 
--- src/lib.rt:47:24
 mul-t16 : tie.Need-mul-t16
 mul-t16 c = search needs
 
--- src/lib.rt:47:15
 add-t17 : tie.Need-add-t17
 add-t17 c = search needs
 
--- src/lib.rt:47:39
 mul-t18 : tie.Need-mul-t18
 mul-t18 c = search needs
 
--- src/lib.rt:47:15
 add-t19 : tie.Need-add-t19
 add-t19 c = search needs
 
--- src/lib.rt:47:56
 mul-t20 : tie.Need-mul-t20
 mul-t20 c = search needs
 
--- src/lib.rt:47:15
 add-t21 : tie.Need-add-t21
 add-t21 c = search needs
 
--- src/lib.rt:30:1
 returns : tie.Need-returns
 returns c = search clock-read
 

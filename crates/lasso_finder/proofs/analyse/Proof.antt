@@ -12,47 +12,36 @@ use Rattle.lasso_finder.proofs.periods.find_periods.Reads as find-perio
 use Rattle.lasso_finder.proofs.periods.phase_count.Reads as phase-count-reads
 use Rattle.lasso_finder.proofs.search.find_lasso.Reads as find-lasso-reads
 
--- src/lib.rt:33:9
 find-lasso-requires : tie.Need-find-lasso-requires
 find-lasso-requires c κs = ((c .before .before .before .pre .0), (c .before .before .before .pre .1 .1))
 
--- src/lib.rt:35:34
 enum-told : tie.Need-enum-told
 enum-told c = search needs
 
--- src/lib.rt:36:33
 enum-known-repeat : tie.Need-enum-known-repeat
 enum-known-repeat c = search needs
 
--- src/lib.rt:37:13
 find-periods-requires : tie.Need-find-periods-requires
 find-periods-requires c κs = ((c .before .before .before .before .before .before .before .before .before .before .pre .0), (stem-is (c .before .before .before .before .before .before .find-lasso .ensures) (c .before .before .repeat .given .1) (c .before .before .before .before .before .before .before .before .before .before .pre .1 .1), (cycle-is (c .before .before .before .before .before .before .find-lasso .ensures) (c .before .before .repeat .given .1) (c .before .before .before .before .before .before .before .before .before .before .pre .1 .1), lassoed (c .before .before .before .before .before .before .find-lasso .ensures) (c .before .before .repeat .given .1) (c .before .before .before .before .before .before .before .before .before .before .pre .1 .1))))
 
--- src/lib.rt:38:17
 phase-count-requires : tie.Need-phase-count-requires
 phase-count-requires c κs = search needs
 
--- src/lib.rt:39:13
 find-known-requires : tie.Need-find-known-requires
 find-known-requires c κs = ((c .before .before .before .before .before .before .before .before .before .before .before .before .before .before .before .before .pre .0), (phases-from (c .before .before .before .before .before .before .before .before .before .before .before .before .find-lasso .ensures) (c .before .before .before .before .before .before .before .before .repeat .given .1) (c .before .before .before .before .before .before .before .before .before .before .before .before .before .before .before .before .pre .1 .1) (c .before .before .before .before .before .before .before .before .before .before .before .before .before .before .before .before .pre .0 .count) (c .before .before .before .before .before .find-periods .ensures .0) (c .before .before .before .before .before .find-periods .ensures .1) (c .before .phase-count .ensures) (c .before .before .before .before .before .before .before .before .before .before .before .before .before .before .before .before .pre .1 .0), (phases-to (c .before .before .before .before .before .before .before .before .before .before .before .before .find-lasso .ensures) (c .before .before .before .before .before .before .before .before .repeat .given .1) (c .before .before .before .before .before .before .before .before .before .before .before .before .before .before .before .before .pre .1 .1) (c .before .before .before .before .before .before .before .before .before .before .before .before .before .before .before .before .pre .0 .count) (c .before .before .before .before .before .find-periods .ensures .0) (c .before .before .before .before .before .find-periods .ensures .1) (c .before .phase-count .ensures) (c .before .before .before .before .before .before .before .before .before .before .before .before .before .before .before .before .pre .1 .0), (c .before .before .before .before .before .find-periods .ensures .1))))
 
--- src/lib.rt:40:17
 put-entries-requires : tie.Need-put-entries-requires
 put-entries-requires c κs = ((c .before .before .before .before .before .before .before .before .before .before .before .before .before .before .before .before .before .before .before .before .pre .0), entries-ask (c .before .before .before .before .before .before .before .before .before .before .before .before .before .before .before .before .find-lasso .ensures) (c .before .before .before .before .before .before .before .before .before .before .before .before .repeat .given .1) (c .before .before .before .before .before .before .before .before .before .before .before .before .before .before .before .before .before .before .before .before .pre .1 .1) (c .before .before .before .before .before .before .before .before .before .before .before .before .before .before .before .before .before .before .before .before .pre .0 .count) (c .before .before .before .before .before .before .before .before .before .find-periods .ensures .0) (c .before .before .before .before .before .before .before .before .before .find-periods .ensures .1) (c .before .before .before .before .before .phase-count .ensures) (c .before .before .before .before .before .before .before .before .before .before .before .before .before .before .before .before .before .before .before .before .pre .1 .0) (c .before .before .before .find-known .ensures .0) (c .before .before .before .find-known .ensures .1))
 
--- src/lib.rt:28:1
 same-length : tie.Need-same-length
 same-length c = search needs
 
--- src/lib.rt:28:1
 returns : tie.Need-returns
 returns c = analysed-never (c .before .before .before .before .find-lasso .ensures) (c .enum-told .given .1)
 
--- src/lib.rt:28:1
 same-length-2 : tie.Need-same-length-2
 same-length-2 c = search needs
 
--- src/lib.rt:28:1
 returns-2 : tie.Need-returns-2
 returns-2 c = analysed-found (c .before .before .before .before .before .before .before .before .before .before .before .before .before .before .before .before .before .before .before .find-lasso .ensures) (c .before .before .before .before .before .before .before .before .before .before .before .before .before .before .before .repeat .given .1) (c .before .before .before .before .before .before .before .before .before .before .before .before .before .before .before .before .before .before .before .before .before .before .before .pre .1 .1) (c .before .before .before .before .before .before .before .before .before .before .before .before .before .before .before .before .before .before .before .before .before .before .before .pre .0 .count) (c .before .before .before .before .before .before .before .before .before .before .before .before .find-periods .ensures .0) (c .before .before .before .before .before .before .before .before .before .before .before .before .find-periods .ensures .1) (c .before .before .before .before .before .before .before .before .phase-count .ensures) (c .before .before .before .before .before .before .before .before .before .before .before .before .before .before .before .before .before .before .before .before .before .before .before .pre .1 .0) (c .before .before .before .before .before .before .find-known .ensures .0) (c .before .before .before .before .before .before .find-known .ensures .1) (c .before .before .put-entries .ensures)
 

@@ -7,83 +7,63 @@ use borrow.Author.Needs.{needs}
 use Rattle.phasefold.proofs.show.Statement.{statement}
 use Rattle.phasefold.proofs.show.Tie as tie
 
--- src/lib.rt:72:11
 accept-requires : tie.Need-accept-requires
 accept-requires c κs = search needs
 
--- src/lib.rt:74:26
 enum-told : tie.Need-enum-told
 enum-told c = search needs
 
--- src/lib.rt:79:29
 mul-start : tie.Need-mul-start
 mul-start c = search needs
 
--- src/lib.rt:79:29
 add-start : tie.Need-add-start
 add-start c = search needs
 
--- src/lib.rt:80:27
 add-end : tie.Need-add-end
 add-end c = search needs
 
--- src/lib.rt:81:17
 sub-result : tie.Need-sub-result
 sub-result c = search needs
 
--- src/lib.rt:81:17
 part-result-start : tie.Need-part-result-start
 part-result-start c = search needs
 
--- src/lib.rt:81:17
 part-result-end : tie.Need-part-result-end
 part-result-end c = search needs
 
--- src/lib.rt:85:17
 sub-result-2 : tie.Need-sub-result-2
 sub-result-2 c = search needs
 
--- src/lib.rt:85:17
 part-result-start-2 : tie.Need-part-result-start-2
 part-result-start-2 c = search needs
 
--- src/lib.rt:85:17
 part-result-end-2 : tie.Need-part-result-end-2
 part-result-end-2 c = search needs
 
--- src/lib.rt:88:29
 enum-known-refusal : tie.Need-enum-known-refusal
 enum-known-refusal c = search needs
 
--- src/lib.rt:89:23
 number-of-requires : tie.Need-number-of-requires
 number-of-requires c κs = search needs
 
--- src/lib.rt:90:22
 place-of-requires : tie.Need-place-of-requires
 place-of-requires c κs = search needs
 
--- src/lib.rt:91:13
 sub-result-3 : tie.Need-sub-result-3
 sub-result-3 c = search needs
 
--- src/lib.rt:91:13
 part-result-start-3 : tie.Need-part-result-start-3
 part-result-start-3 c = search needs
 
--- src/lib.rt:91:13
 part-result-end-3 : tie.Need-part-result-end-3
 part-result-end-3 c = search needs
 
--- src/lib.rt:69:1
 returns : tie.Need-returns
 returns c = block-shown (c .before .before .before .before .before .before .args .file .now) (c .before .before .before .before .before .before .args .block) (c .before .before .before .before .accept .result) (c .before .before .before .before .accept .ensures) (512 * c .before .before .before .before .before .before .args .block + 4 + 504 - (512 * c .before .before .before .before .before .before .args .block + 4)) (omega arith) (c .before .before .enum-told .given .1) (c .before .if1 .taken)
 
--- src/lib.rt:69:1
 returns-2 : tie.Need-returns-2
 returns-2 c = block-missing (c .before .before .before .before .before .before .args .file .now) (c .before .before .before .before .before .before .args .block) (c .before .before .before .before .accept .result) (c .before .before .before .before .accept .ensures) (c .before .before .enum-told .given .1) (c .before .if1 .left)
 
--- src/lib.rt:69:1
 returns-3 : tie.Need-returns-3
 returns-3 c = file-refused (c .before .before .before .before .before .before .before .before .args .file .now) (c .before .before .before .before .before .before .before .before .args .block) (c .before .before .before .before .before .before .accept .result) (c .before .before .before .before .before .before .accept .ensures) (c .before .before .before .before .refusal .given .0 .0) (c .before .before .number-of .result) (c .before .place-of .result) (c .before .before .before .before .refusal .given .1) (c .before .before .number-of .ensures) (c .before .place-of .ensures)
 

@@ -18,31 +18,24 @@ Inv-values values binary₀ i₀ binary i = (i ≤ length values) × (binary ≡
 abbrev μ-values : tie.MeasureT-values
 μ-values values binary₀ i₀ binary i = length values - i
 
--- src/lib.rt:54:5
 values-holds : tie.Need-values-holds Inv-values μ-values
 values-holds c = (omega arith, refl)
 
--- src/lib.rt:55:21
 shared-slice-read-value : tie.Need-shared-slice-read-value Inv-values μ-values
 shared-slice-read-value c = search needs
 
--- src/lib.rt:56:9
 both-requires : tie.Need-both-requires Inv-values μ-values
 both-requires c κs = search needs
 
--- src/lib.rt:57:9
 add-i : tie.Need-add-i Inv-values μ-values
 add-i c = omega (arith, c .before .before .values-test .taken)
 
--- src/lib.rt:54:5
 values-less : tie.Need-values-less Inv-values μ-values
 values-less c = omega (arith, c .before .before .values-test .taken)
 
--- src/lib.rt:54:5
 values-again : tie.Need-values-again Inv-values μ-values
 values-again c = (omega (arith, c .before .before .values-test .taken), binary-more (c .before .before .before .before .before .args .values .now) (c .before .before .before .values .i) (c .before .before .before .values .binary) (c .both .result) (c .before .before .before .values .inv .1) (c .both .ensures))
 
--- src/lib.rt:49:1
 returns : tie.Need-returns Inv-values μ-values
 returns c = let e : c .before .values .i ≡ length (c .before .before .before .args .values .now) = omega (arith, c .values-test .left, c .before .values .inv .0) in c .before .values .inv .1 ∙ ap (λ (n : ℕ). allBelow n (λ k. leb (byteAt (c .before .before .before .args .values .now) k) 1)) e
 

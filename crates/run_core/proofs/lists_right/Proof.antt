@@ -7,15 +7,12 @@ use borrow.Author.Needs.{needs}
 use Rattle.run_core.proofs.lists_right.Statement.{statement}
 use Rattle.run_core.proofs.lists_right.Tie as tie
 
--- src/lib.rt:67:18
 mul-values : tie.Need-mul-values
 mul-values c = record { fits = omega (arith, product-small (c .before .before .before .args .steps) (c .before .before .before .args .counts .inputs) (c .before .before .before .pre .1) (c .before .before .before .pre .0 .inputs)) }
 
--- src/lib.rt:68:5
 both-requires : tie.Need-both-requires
 both-requires c κs = search needs
 
--- src/lib.rt:63:1
 returns : tie.Need-returns
 returns c = λ rows e. lists-by rows (countsIn (c .before .before .before .before .before .args .counts)) e (c .before .before .before .before .before .args .steps) (c .both .result) (c .before .before .before .before .before .args .choices .now) (c .before .before .before .before .before .args .inputs .now) (c .both .ensures)
 

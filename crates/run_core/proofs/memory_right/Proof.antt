@@ -7,15 +7,12 @@ use borrow.Author.Needs.{needs}
 use Rattle.run_core.proofs.memory_right.Statement.{statement}
 use Rattle.run_core.proofs.memory_right.Tie as tie
 
--- src/lib.rt:76:17
 mul-bytes : tie.Need-mul-bytes
 mul-bytes c = record { fits = omega (arith, product-small (c .before .args .steps) (c .before .args .counts .outputs) (c .before .pre .1) (c .before .pre .0 .outputs)) }
 
--- src/lib.rt:77:5
 both-requires : tie.Need-both-requires
 both-requires c κs = search needs
 
--- src/lib.rt:72:1
 returns : tie.Need-returns
 returns c = λ rows e. memory-by rows (countsIn (c .before .before .args .counts)) e (c .before .before .args .steps) (c .both .result) (c .before .before .args .result) (c .before .before .args .work) (c .both .ensures)
 

@@ -7,47 +7,36 @@ use borrow.Author.Needs.{needs}
 use Rattle.run_core.proofs.run_core.Statement.{statement}
 use Rattle.run_core.proofs.run_core.Tie as tie
 
--- src/lib.rt:146:9
 plan-run-requires : tie.Need-plan-run-requires
 plan-run-requires c κs = search needs
 
--- src/lib.rt:147:5
 clear-requires : tie.Need-clear-requires
 clear-requires c κs = search needs
 
--- src/lib.rt:149:23
 enum-known-plan : tie.Need-enum-known-plan
 enum-known-plan c = search needs
 
--- src/lib.rt:151:13
 enum-known-plan-2 : tie.Need-enum-known-plan-2
 enum-known-plan-2 c = search needs
 
--- src/lib.rt:155:13
 run-steps-requires : tie.Need-run-steps-requires
 run-steps-requires c κs = given-by (c .before .before .before .before .before .before .before .before .before .before .before .before .before .before .before .args .file .now) (c .before .before .before .before .before .before .before .before .before .before .before .before .before .before .before .args .steps) (c .before .before .before .before .before .before .before .before .before .before .before .before .before .before .before .args .choices .now) (c .before .before .before .before .before .before .before .before .before .before .before .before .before .before .before .args .inputs .now) (c .before .before .before .before .before .before .before .before .before .before .before .before .before .before .before .args .result .now) (c .before .before .before .before .before .before .before .before .before .before .before .before .before .before .before .args .work .now) (c .before .before .before .before .before .before .before .before .before .plan-run .result) (c .before .before .before .before .before .before .before .before .before .plan-run .ensures) (c .before .before .before .plan2 .given .0 .0) (c .before .before .before .plan2 .given .0 .1 .0) (c .before .before .before .plan2 .given .0 .1 .1 .0) (c .before .before .before .plan2 .given .1) 8192 (omega arith) (omega arith) (c .before .before .before .before .before .before .before .clear .last .0) (c .before .before .before .before .before .before .before .clear .ensures)
 
--- src/lib.rt:167:13
 clear-requires-2 : tie.Need-clear-requires-2
 clear-requires-2 c κs = search needs
 
--- src/lib.rt:134:1
 same-length : tie.Need-same-length
 same-length c = search needs
 
--- src/lib.rt:134:1
 returns : tie.Need-returns
 returns c = ran-refused (c .before .before .before .before .before .before .before .before .before .before .before .before .before .args .file .now) (c .before .before .before .before .before .before .before .before .before .before .before .before .before .args .steps) (c .before .before .before .before .before .before .before .before .before .before .before .before .before .args .choices .now) (c .before .before .before .before .before .before .before .before .before .before .before .before .before .args .inputs .now) (c .before .before .before .before .before .before .before .before .before .before .before .before .before .args .result .now) (c .before .before .before .before .before .before .before .before .before .before .before .before .before .args .work .now) (c .before .before .before .before .before .before .before .plan-run .result) (c .before .before .before .before .before .before .before .plan-run .ensures) (c .before .plan .given .0 .0) (c .before .before .before .before .before .clear .last .0) (c .before .plan .given .1) (c .before .before .before .before .before .clear .ensures)
 
--- src/lib.rt:134:1
 same-length-2 : tie.Need-same-length-2
 same-length-2 c = search needs
 
--- src/lib.rt:134:1
 same-length-3 : tie.Need-same-length-3
 same-length-3 c = search needs
 
--- src/lib.rt:134:1
 returns-2 : tie.Need-returns-2
 returns-2 c = ran-done (c .before .before .before .before .before .before .before .before .before .before .before .before .before .before .before .before .before .before .before .before .before .before .before .before .args .file .now) (c .before .before .before .before .before .before .before .before .before .before .before .before .before .before .before .before .before .before .before .before .before .before .before .before .args .steps) (c .before .before .before .before .before .before .before .before .before .before .before .before .before .before .before .before .before .before .before .before .before .before .before .before .args .choices .now) (c .before .before .before .before .before .before .before .before .before .before .before .before .before .before .before .before .before .before .before .before .before .before .before .before .args .inputs .now) (c .before .before .before .before .before .before .before .before .before .before .before .before .before .before .before .before .before .before .before .before .before .before .before .before .args .result .now) (c .before .before .before .before .before .before .before .before .before .before .before .before .before .before .before .before .before .before .before .before .before .before .before .before .args .work .now) (c .before .before .before .before .before .before .before .before .before .before .before .before .before .before .before .before .before .before .plan-run .result) (c .before .before .before .before .before .before .before .before .before .before .before .before .before .before .before .before .before .before .plan-run .ensures) (c .before .before .before .before .before .before .before .before .before .before .before .before .plan2 .given .0 .0) (c .before .before .before .before .before .before .before .before .before .before .before .before .plan2 .given .0 .1 .0) (c .before .before .before .before .before .before .before .before .before .before .before .before .plan2 .given .0 .1 .1 .0) (c .before .before .before .before .before .before .before .before .before .before .before .before .plan2 .given .1) (c .before .before .before .before .before .before .before .before .run-steps .last .1 .1 .1 .1 .1 .1 .1 .0) (c .before .before .before .before .before .before .before .before .run-steps .last .1 .1 .1 .1 .1 .1 .1 .1 .0) (c .before .before .clear2 .last .0) (c .before .before .before .before .before .before .before .before .run-steps .ensures) (c .before .before .before .before .before .before .before .before .run-steps .kept .1 .1 .1 .1 .1 .1 .1 .1 .0 ∙ c .before .before .before .before .before .before .before .before .before .before .before .before .before .before .before .before .clear .kept .0) (c .before .before .clear2 .ensures)
 

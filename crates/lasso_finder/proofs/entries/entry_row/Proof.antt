@@ -11,51 +11,39 @@ use Rattle.lasso_finder.proofs.entries.entry_row.Lts as lts
 use Rattle.blockfile.proofs.read_row.Reads as read-row-reads
 use Rattle.lasso_finder.proofs.entries.put_entry.Reads as put-entry-reads
 
--- src/entries.rt:39:32
 mul-first : tie.Need-mul-first
 mul-first c = let s = row-small (entry-row (c .before .before .pre)) in omega arith
 
--- src/entries.rt:39:17
 add-first : tie.Need-add-first
 add-first c = let s = row-small (entry-row (c .before .before .pre)) in omega arith
 
--- src/entries.rt:40:18
 add-second : tie.Need-add-second
 add-second c = let s = row-small (entry-row (c .before .before .pre)) in omega arith
 
--- src/entries.rt:41:18
 slice-read-period : tie.Need-slice-read-period
 slice-read-period c = let s = row-small (entry-row (c .before .before .before .pre)) in let r = (c .before .before .before .pre .room) in omega arith
 
--- src/entries.rt:42:16
 slice-read-word : tie.Need-slice-read-word
 slice-read-word c = let s = row-small (entry-row (c .before .before .before .before .pre)) in let r = (c .before .before .before .before .pre .room) in omega arith
 
--- src/entries.rt:44:9
 returns : tie.Need-returns
 returns c = entry-none (c .before .before .before .before .before .pre) (c .if1 .taken)
 
--- src/entries.rt:46:9
 read-row-requires : tie.Need-read-row-requires
 read-row-requires c κs = read-asks (entry-row (c .before .before .before .before .before .pre))
 
--- src/entries.rt:47:17
 cast-label : tie.Need-cast-label
 cast-label c = let s = (c .before .read-row .ensures .1 .b-small) in omega arith
 
--- src/entries.rt:48:5
 put-entry-requires : tie.Need-put-entry-requires
 put-entry-requires c κs = put-asks (c .before .before .before .before .before .before .before .before .pre) (c .before .before .before .if1 .left)
 
--- src/entries.rt:49:5
 add-result : tie.Need-add-result
 add-result c = let s = number-small (entry-row (c .before .before .before .before .before .before .before .before .before .before .before .pre)) in let h = (c .before .before .before .before .before .before .before .before .before .before .before .pre .few) in omega arith
 
--- src/entries.rt:35:1
 same-length : tie.Need-same-length
 same-length c = search needs
 
--- src/entries.rt:35:1
 returns-2 : tie.Need-returns-2
 returns-2 c = entry-some (c .before .before .before .before .before .before .before .before .before .before .before .pre) (c .before .before .before .before .before .before .if1 .left) (c .before .before .before .before .before .read-row .result) (c .before .before .before .before .before .read-row .ensures .0) (c .before .before .put-entry .last .0) (c .before .before .put-entry .ensures)
 

@@ -19,31 +19,24 @@ Inv-rows file rows work₀ i₀ e₀ work i e = (i ≤ rows) × EntryPart (netli
 abbrev μ-rows : tie.MeasureT-rows
 μ-rows file rows work₀ i₀ e₀ work i e = rows - i
 
--- src/entries.rt:60:5
 rows-holds : tie.Need-rows-holds Inv-rows μ-rows
 rows-holds c = (omega arith, entries-start (netlistOf (c .before .before .args .file .now)) (c .before .before .args .work .now))
 
--- src/entries.rt:61:9
 entry-row-requires : tie.Need-entry-row-requires Inv-rows μ-rows
 entry-row-requires c κs = entry-asks (c .before .before .before .before .before .pre .0) (omega arith) (c .before .before .before .before .before .pre .1 .0) (c .before .before .before .before .before .pre .1 .1) (c .before .before .rows .inv .1)
 
--- src/entries.rt:62:9
 add-i : tie.Need-add-i Inv-rows μ-rows
 add-i c = omega arith
 
--- src/entries.rt:60:5
 rows-less : tie.Need-rows-less Inv-rows μ-rows
 rows-less c = omega arith
 
--- src/entries.rt:60:5
 rows-again : tie.Need-rows-again Inv-rows μ-rows
 rows-again c = (omega arith, entry-more (c .before .before .before .before .before .before .before .before .pre .0) (omega arith) (c .before .before .before .before .before .before .before .before .pre .1 .0) (c .before .before .before .before .before .before .before .before .pre .1 .1) (c .before .before .before .before .before .rows .inv .1) (λ x. omega (arith, (c .before .before .before .before .before .before .before .shared-slice-known .given) x)) (λ x. omega (arith, (c .before .before .before .before .before .before .slice-known .given) x)) (c .before .before .entry-row .last .1 .1 .1 .0) (c .before .before .entry-row .result) (c .before .before .entry-row .ensures .0) (c .before .before .entry-row .ensures .1))
 
--- src/entries.rt:53:1
 same-length : tie.Need-same-length Inv-rows μ-rows
 same-length c = search needs
 
--- src/entries.rt:53:1
 returns : tie.Need-returns Inv-rows μ-rows
 returns c = let q : (c .before .rows .i) ≡ (c .before .before .before .before .args .rows) = omega arith in subst (λ (k : ℕ). EntryPart (netlistOf (c .before .before .before .before .args .file .now)) (c .before .before .before .before .args .work .now) (c .before .rows .work) k (c .before .rows .e)) q (c .before .rows .inv .1)
 

@@ -13,47 +13,36 @@ use Rattle.lasso_finder.proofs.entries.put_entry.Lts as lts
 use Rattle.memory.proofs.write_u16.Reads as write-u16-reads
 use Rattle.memory.proofs.write_u32.Reads as write-u32-reads
 
--- src/entries.rt:23:27
 mul-place : tie.Need-mul-place
 mul-place c = search needs
 
--- src/entries.rt:23:17
 add-place : tie.Need-add-place
 add-place c = search needs
 
--- src/entries.rt:24:21
 add-at-period : tie.Need-add-at-period
 add-at-period c = search needs
 
--- src/entries.rt:25:19
 add-at-word : tie.Need-add-at-word
 add-at-word c = search needs
 
--- src/entries.rt:26:19
 add-at-ones : tie.Need-add-at-ones
 add-at-ones c = search needs
 
--- src/entries.rt:28:5
 write-u16-requires : tie.Need-write-u16-requires
 write-u16-requires c κs = search needs
 
--- src/entries.rt:29:5
 slice-write-work : tie.Need-slice-write-work
 slice-write-work c = search needs
 
--- src/entries.rt:30:5
 slice-write-work-2 : tie.Need-slice-write-work-2
 slice-write-work-2 c = simp length-set (omega (arith, (c .before .before .write-u16 .kept .0)))
 
--- src/entries.rt:31:5
 write-u32-requires : tie.Need-write-u32-requires
 write-u32-requires c κs = simp length-set (omega (arith, (c .before .before .before .write-u16 .kept .0)))
 
--- src/entries.rt:19:1
 same-length : tie.Need-same-length
 same-length c = (c .before .before .write-u32 .kept .0) ∙ simp length-set (c .before .before .before .before .before .before .write-u16 .kept .0)
 
--- src/entries.rt:19:1
 returns : tie.Need-returns
 returns c = entry-put (c .before .before .before .before .before .before .before .before .before .args .work .now) (c .before .before .before .before .before .before .write-u16 .last .0) (c .before .before .write-u32 .last .0) (entryPlace (c .before .before .before .before .before .before .before .before .before .args .e)) (c .before .before .before .before .before .before .before .before .before .args .label) (c .before .before .before .before .before .before .before .before .before .args .period) (c .before .before .before .before .before .before .before .before .before .args .word) (c .before .before .before .before .before .before .write-u16 .ensures) (c .before .before .write-u32 .ensures)
 

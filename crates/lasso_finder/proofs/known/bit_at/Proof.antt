@@ -8,11 +8,9 @@ use Rattle.lasso_finder.proofs.known.bit_at.Tie as tie
 use Rattle.lasso_finder.proofs.known.bit_at.Reads as reads
 use Rattle.lasso_finder.proofs.known.bit_at.Lts as lts
 
--- src/known.rt:23:5
 shl-result : tie.Need-shl-result
 shl-result c = search needs
 
--- src/known.rt:19:1
 returns : tie.Need-returns
 returns c = let e = bit-exact (c .args .code) (c .args .k) (c .pre .0) (c .pre .1) in let s = bit-small (c .args .code) (c .args .k) (c .pre .0) in (e, omega arith)
 

@@ -19,51 +19,39 @@ Inv-phases work j period phases word₀ k₀ word k = (k ≤ phases) × (word �
 abbrev μ-phases : tie.MeasureT-phases
 μ-phases work j period phases word₀ k₀ word k = phases - k
 
--- src/known.rt:33:5
 phases-holds : tie.Need-phases-holds Inv-phases μ-phases
 phases-holds c = (omega arith, word-none (phaseValue (c .before .args .work .now) (c .before .args .j) (c .before .args .period)))
 
--- src/known.rt:34:17
 rem-t : tie.Need-rem-t Inv-phases μ-phases
 rem-t c = let q = (c .before .before .before .pre .period) in let a = q .0 in omega arith
 
--- src/known.rt:35:66
 mul-register-code : tie.Need-mul-register-code Inv-phases μ-phases
 mul-register-code c = let h = phase-less (c .before .before .before .pre) (c .before .phases .k) in omega arith
 
--- src/known.rt:35:48
 add-register-code : tie.Need-add-register-code Inv-phases μ-phases
 add-register-code c = let h = phase-less (c .before .before .before .pre) (c .before .phases .k) in omega arith
 
--- src/known.rt:35:13
 register-code-requires : tie.Need-register-code-requires Inv-phases μ-phases
 register-code-requires c κs = let h = phase-less (c .before .before .before .pre) (c .before .phases .k) in (omega arith, ((c .before .before .before .pre .register), (c .before .before .before .pre .room)))
 
--- src/known.rt:36:23
 bit-at-requires : tie.Need-bit-at-requires Inv-phases μ-phases
 bit-at-requires c κs = let h = phase-read (c .before .before .before .before .pre) (c .before .before .phases .k) (c .before .phases-test .taken) (c .register-code .result) (c .register-code .ensures .0) in let n = (c .before .before .before .before .pre .phases) in (h .1, omega arith)
 
--- src/known.rt:36:16
 add-word : tie.Need-add-word Inv-phases μ-phases
 add-word c = let n = (c .before .before .before .before .before .pre .phases) in record { fits = sum-small (c .before .before .before .phases .word) (c .bit-at .result) (c .before .before .before .phases .k) (word-small (phaseValue (c .before .before .before .before .before .args .work .now) (c .before .before .before .before .before .args .j) (c .before .before .before .before .before .args .period)) (c .before .before .before .phases .word) (c .before .before .before .phases .k) (c .before .before .before .before .before .args .phases) (c .before .before .before .phases .inv .1) (c .before .before .before .phases .inv .0) n) (c .bit-at .ensures .1) (omega arith) }
 
--- src/known.rt:37:9
 add-k : tie.Need-add-k Inv-phases μ-phases
 add-k c = omega arith
 
--- src/known.rt:33:5
 phases-less : tie.Need-phases-less Inv-phases μ-phases
 phases-less c = omega arith
 
--- src/known.rt:33:5
 phases-again : tie.Need-phases-again Inv-phases μ-phases
 phases-again c = let h = phase-read (c .before .before .before .before .before .pre) (c .before .before .before .phases .k) (c .before .before .phases-test .taken) (c .before .register-code .result) (c .before .register-code .ensures .0) in (omega arith, word-more (phaseValue (c .before .before .before .before .before .args .work .now) (c .before .before .before .before .before .args .j) (c .before .before .before .before .before .args .period)) (c .before .before .before .phases .k) (c .before .before .before .phases .word) (c .before .register-code .result) (c .bit-at .result) (c .before .before .before .phases .inv .1) (h .0) (h .1) (c .bit-at .ensures .0))
 
--- src/known.rt:39:5
 cast-result : tie.Need-cast-result Inv-phases μ-phases
 cast-result c = let h = word-small (phaseValue (c .before .before .before .args .work .now) (c .before .before .before .args .j) (c .before .before .before .args .period)) (c .before .phases .word) (c .before .phases .k) (c .before .before .before .args .phases) (c .before .phases .inv .1) (c .before .phases .inv .0) (c .before .before .before .pre .phases) in omega arith
 
--- src/known.rt:27:1
 returns : tie.Need-returns Inv-phases μ-phases
 returns c = let e : (c .before .phases .k) ≡ (c .before .before .before .args .phases) = omega arith in (c .before .phases .inv .1) ∙ ap (clockWord (phaseValue (c .before .before .before .args .work .now) (c .before .before .before .args .j) (c .before .before .before .args .period))) e
 

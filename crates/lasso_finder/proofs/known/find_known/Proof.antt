@@ -22,31 +22,24 @@ Inv-rows file rows work₀ phases i₀ j₀ work i j = (i ≤ rows) × ((j ≡ r
 abbrev μ-rows : tie.MeasureT-rows
 μ-rows file rows work₀ phases i₀ j₀ work i j = rows - i
 
--- src/known.rt:88:5
 rows-holds : tie.Need-rows-holds Inv-rows μ-rows
 rows-holds c = (omega arith, (refl, (kept-none (knownPlace 0) (knownPlace mostOriginalRows) (c .before .before .args .work .now), record { part = subst (PeriodPart (netlistOf (c .before .before .args .file .now)) (c .before .before .args .work .now)) (c .before .before .pre .0 .count) (c .before .before .pre .1 .1 .1); known = λ x h. absurd (omega arith) })))
 
--- src/known.rt:89:9
 known-row-requires : tie.Need-known-row-requires Inv-rows μ-rows
 known-row-requires c κs = (record { ready = (c .before .before .before .before .before .pre .0); within = omega arith; number = (c .before .before .rows .inv .1 .0) }, ((c .before .before .before .before .before .pre .1 .0), ((c .before .before .before .before .before .pre .1 .1 .0), (c .before .before .rows .inv .1 .1 .1))))
 
--- src/known.rt:90:9
 add-i : tie.Need-add-i Inv-rows μ-rows
 add-i c = omega arith
 
--- src/known.rt:88:5
 rows-less : tie.Need-rows-less Inv-rows μ-rows
 rows-less c = omega arith
 
--- src/known.rt:88:5
 rows-again : tie.Need-rows-again Inv-rows μ-rows
 rows-again c = (omega arith, ((c .before .before .known-row .ensures .0), (kept-join (knownPlace 0) (knownPlace mostOriginalRows) (c .before .before .before .before .before .before .before .before .args .work .now) (c .before .before .before .before .before .rows .work) (c .before .before .known-row .last .1 .1 .1 .1 .0) (c .before .before .before .before .before .rows .inv .1 .1 .0) (c .before .before .known-row .ensures .1 .0) (omega arith) (omega arith) (omega arith) (omega arith), (c .before .before .known-row .ensures .1 .1))))
 
--- src/known.rt:81:1
 same-length : tie.Need-same-length Inv-rows μ-rows
 same-length c = search needs
 
--- src/known.rt:81:1
 returns : tie.Need-returns Inv-rows μ-rows
 returns c = let e : (c .before .rows .i) ≡ (c .before .before .before .before .args .rows) = omega arith in ((c .before .rows .inv .1 .1 .0), subst (KnownPart (netlistOf (c .before .before .before .before .args .file .now)) (c .before .before .before .before .args .phases) (c .before .rows .work)) e (c .before .rows .inv .1 .1 .1))
 

@@ -18,55 +18,42 @@ use Rattle.lasso_finder.proofs.known.put_known.Reads as put-known-reads
 use Rattle.lasso_finder.proofs.periods.is_used.Reads as is-used-reads
 use Rattle.lasso_finder.proofs.states.count_register.Reads as count-register-reads
 
--- src/known.rt:66:9
 read-row-requires : tie.Need-read-row-requires
 read-row-requires c κs = read-asks (c .before .before .pre .0)
 
--- src/known.rt:67:9
 count-register-requires : tie.Need-count-register-requires
 count-register-requires c κs = let h = number-small (c .before .before .before .pre .0) in omega arith
 
--- src/known.rt:68:17
 add-place : tie.Need-add-place
 add-place c = let h = row-small (c .before .before .before .before .pre .0) in omega arith
 
--- src/known.rt:69:18
 slice-read-period : tie.Need-slice-read-period
 slice-read-period c = let h = row-small (c .before .before .before .before .before .pre .0) in let r = (c .before .before .before .before .before .pre .1 .1 .1 .part .lassoed .room) in omega arith
 
--- src/known.rt:70:13
 cast-p : tie.Need-cast-p
 cast-p c = omega (arith, (c .slice-known2 .given) (valuePlace (c .before .before .before .before .before .args .row)))
 
--- src/known.rt:71:8
 is-used-requires : tie.Need-is-used-requires
 is-used-requires c κs = search needs
 
--- src/known.rt:72:13
 clock-word-requires : tie.Need-clock-word-requires
 clock-word-requires c κs = word-asks (c .before .before .before .before .before .before .before .before .pre .1 .1 .1 .part) (row-within (c .before .before .before .before .before .before .before .before .pre .0)) (c .before .before .before .before .before .before .before .before .pre .1 .0) (c .before .before .before .before .before .before .before .before .pre .1 .1 .0) (sym (byte-used (c .before .before .before .before .before .before .before .before .pre .1 .1 .1 .part) (row-within (c .before .before .before .before .before .before .before .before .pre .0)) (c .before .before .before .before .before .before .before .before .pre .1 .0) (c .before .before .before .before .before .before .before .before .pre .1 .1 .0)) ∙ sym (c .before .before .is-used .ensures) ∙ (c .before .if1 .taken)) (c .before .before .before .before .before .before .before .before .pre .0 .ready .registers) (c .before .before .before .before .before .before .before .before .pre .0 .number) refl
 
--- src/known.rt:73:9
 put-known-requires : tie.Need-put-known-requires
 put-known-requires c κs = (row-small (c .before .before .before .before .before .before .before .before .before .before .pre .0), (c .before .before .before .before .before .before .before .before .before .before .pre .1 .1 .1 .part .lassoed .room))
 
--- src/known.rt:74:9
 same-length : tie.Need-same-length
 same-length c = search needs
 
--- src/known.rt:74:9
 returns : tie.Need-returns
 returns c = (number-next (c .before .before .before .before .before .before .before .before .before .before .before .before .before .pre .0) (c .before .before .before .before .before .before .before .before .before .before .read-row .result) (c .before .before .before .before .before .before .before .before .before .before .read-row .ensures .0) (c .before .before .before .before .before .before .before .before .before .count-register .result) (c .before .before .before .before .before .before .before .before .before .count-register .ensures), known-more (c .before .before .before .before .before .before .before .before .before .before .before .before .before .pre .0) (c .before .before .before .before .before .before .before .before .before .before .before .before .before .pre .1 .1 .1) (c .before .before .put-known .last .0) ((c .before .before .put-known .ensures) ∙ ap (sets (c .before .before .before .before .before .before .before .before .before .before .before .before .before .args .work .now) (knownPlace (c .before .before .before .before .before .before .before .before .before .before .before .before .before .args .row))) (known-used (c .before .before .before .before .before .before .before .before .before .before .before .before .before .pre .1 .1 .1 .part) (row-within (c .before .before .before .before .before .before .before .before .before .before .before .before .before .pre .0)) (c .before .before .before .before .before .before .before .before .before .before .before .before .before .pre .1 .0) (c .before .before .before .before .before .before .before .before .before .before .before .before .before .pre .1 .1 .0) (sym (byte-used (c .before .before .before .before .before .before .before .before .before .before .before .before .before .pre .1 .1 .1 .part) (row-within (c .before .before .before .before .before .before .before .before .before .before .before .before .before .pre .0)) (c .before .before .before .before .before .before .before .before .before .before .before .before .before .pre .1 .0) (c .before .before .before .before .before .before .before .before .before .before .before .before .before .pre .1 .1 .0)) ∙ sym (c .before .before .before .before .before .before .before .is-used .ensures) ∙ (c .before .before .before .before .before .before .if1 .taken)) (c .before .before .before .before .before .before .before .before .before .before .before .before .before .pre .0 .ready .registers) (c .before .before .before .before .before .before .before .before .before .before .before .before .before .pre .0 .number) refl (c .before .before .before .before .clock-word .result) (c .before .before .before .before .clock-word .ensures))))
 
--- src/known.rt:76:5
 put-known-requires-2 : tie.Need-put-known-requires-2
 put-known-requires-2 c κs = (row-small (c .before .before .before .before .before .before .before .before .pre .0), (c .before .before .before .before .before .before .before .before .pre .1 .1 .1 .part .lassoed .room))
 
--- src/known.rt:54:1
 same-length-2 : tie.Need-same-length-2
 same-length-2 c = search needs
 
--- src/known.rt:54:1
 returns-2 : tie.Need-returns-2
 returns-2 c = (number-next (c .before .before .before .before .before .before .before .before .before .before .before .pre .0) (c .before .before .before .before .before .before .before .before .read-row .result) (c .before .before .before .before .before .before .before .before .read-row .ensures .0) (c .before .before .before .before .before .before .before .count-register .result) (c .before .before .before .before .before .before .before .count-register .ensures), known-more (c .before .before .before .before .before .before .before .before .before .before .before .pre .0) (c .before .before .before .before .before .before .before .before .before .before .before .pre .1 .1 .1) (c .before .before .put-known2 .last .0) ((c .before .before .put-known2 .ensures) ∙ ap (sets (c .before .before .before .before .before .before .before .before .before .before .before .args .work .now) (knownPlace (c .before .before .before .before .before .before .before .before .before .before .before .args .row))) (known-unused (c .before .before .before .before .before .before .before .before .before .before .before .pre .1 .1 .1 .part) (row-within (c .before .before .before .before .before .before .before .before .before .before .before .pre .0)) (c .before .before .before .before .before .before .before .before .before .before .before .pre .1 .0) (c .before .before .before .before .before .before .before .before .before .before .before .pre .1 .1 .0) (sym (byte-used (c .before .before .before .before .before .before .before .before .before .before .before .pre .1 .1 .1 .part) (row-within (c .before .before .before .before .before .before .before .before .before .before .before .pre .0)) (c .before .before .before .before .before .before .before .before .before .before .before .pre .1 .0) (c .before .before .before .before .before .before .before .before .before .before .before .pre .1 .1 .0)) ∙ sym (c .before .before .before .before .before .is-used .ensures) ∙ (c .before .before .before .before .if1 .left)))))
 

@@ -11,31 +11,24 @@ use Rattle.lasso_finder.proofs.known.put_known.Tie as tie
 use Rattle.lasso_finder.proofs.known.put_known.Reads as reads
 use Rattle.lasso_finder.proofs.known.put_known.Lts as lts
 
--- src/known.rt:47:25
 mul-first : tie.Need-mul-first
 mul-first c = search needs
 
--- src/known.rt:47:17
 add-first : tie.Need-add-first
 add-first c = search needs
 
--- src/known.rt:48:18
 add-second : tie.Need-add-second
 add-second c = search needs
 
--- src/known.rt:49:5
 slice-write-work : tie.Need-slice-write-work
 slice-write-work c = search needs
 
--- src/known.rt:50:5
 slice-write-work-2 : tie.Need-slice-write-work-2
 slice-write-work-2 c = simp length-set (omega arith)
 
--- src/known.rt:43:1
 same-length : tie.Need-same-length
 same-length c = search needs
 
--- src/known.rt:43:1
 returns : tie.Need-returns
 returns c = rw (add-one (knownPlace (c .args .row))) refl
 

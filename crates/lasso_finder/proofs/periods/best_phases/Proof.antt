@@ -21,39 +21,30 @@ Inv-counts work rows best₀ most₀ tried₀ best most tried = ((1 ≤ tried) �
 abbrev μ-counts : tie.MeasureT-counts
 μ-counts work rows best₀ most₀ tried₀ best most tried = mostPhases - tried
 
--- src/periods.rt:171:9
 count-used-requires : tie.Need-count-used-requires Inv-counts μ-counts
 count-used-requires c κs = (c .before .pre)
 
--- src/periods.rt:173:5
 counts-holds : tie.Need-counts-holds Inv-counts μ-counts
 counts-holds c = ((omega arith, omega arith), (best-start (periodBytes (c .before .before .args .work .now) (c .before .before .args .rows)), (c .count-used .ensures)))
 
--- src/periods.rt:174:17
 add-n : tie.Need-add-n Inv-counts μ-counts
 add-n c = omega arith
 
--- src/periods.rt:175:13
 count-used-requires-2 : tie.Need-count-used-requires-2 Inv-counts μ-counts
 count-used-requires-2 c κs = (c .before .before .before .before .pre)
 
--- src/periods.rt:177:9
 choose-requires : tie.Need-choose-requires Inv-counts μ-counts
 choose-requires c κs = search needs
 
--- src/periods.rt:178:9
 choose-requires-2 : tie.Need-choose-requires-2 Inv-counts μ-counts
 choose-requires-2 c κs = search needs
 
--- src/periods.rt:173:5
 counts-less : tie.Need-counts-less Inv-counts μ-counts
 counts-less c = omega arith
 
--- src/periods.rt:173:5
 counts-again : tie.Need-counts-again Inv-counts μ-counts
 counts-again c = ((omega arith, omega arith), best-more (periodBytes (c .before .before .before .before .before .before .before .args .work .now) (c .before .before .before .before .before .before .before .args .rows)) (c .before .before .before .before .counts .tried) (c .before .before .before .before .counts .best) (c .before .before .before .before .counts .most) (c .before .before .count-used2 .result) (c .before .choose .result) (c .choose2 .result) (c .before .before .before .before .counts .inv .1 .0) (c .before .before .before .before .counts .inv .1 .1) (c .before .before .count-used2 .ensures) (c .before .choose .ensures) (c .choose2 .ensures))
 
--- src/periods.rt:166:1
 returns : tie.Need-returns Inv-counts μ-counts
 returns c = let e : (c .before .counts .tried) ≡ mostPhases = omega arith in (c .before .counts .inv .1 .0) ∙ ap (bestPhaseCount (periodBytes (c .before .before .before .before .args .work .now) (c .before .before .before .before .args .rows))) e
 

@@ -24,47 +24,36 @@ Inv-rows work rows n used₀ i₀ used i = (i ≤ rows) × ((used ≤ i) × (use
 abbrev μ-rows : tie.MeasureT-rows
 μ-rows work rows n used₀ i₀ used i = rows - i
 
--- src/periods.rt:157:5
 rows-holds : tie.Need-rows-holds Inv-rows μ-rows
 rows-holds c = (omega arith, (omega arith, refl))
 
--- src/periods.rt:158:44
 add-read-u8 : tie.Need-add-read-u8 Inv-rows μ-rows
 add-read-u8 c = omega arith
 
--- src/periods.rt:158:22
 read-u8-requires : tie.Need-read-u8-requires Inv-rows μ-rows
 read-u8-requires c κs = omega arith
 
--- src/periods.rt:158:22
 cast-period : tie.Need-cast-period Inv-rows μ-rows
 cast-period c = let h = (c .read-u8 .ensures .1) in omega arith
 
--- src/periods.rt:159:30
 is-used-requires : tie.Need-is-used-requires Inv-rows μ-rows
 is-used-requires c κs = search needs
 
--- src/periods.rt:159:23
 choose-requires : tie.Need-choose-requires Inv-rows μ-rows
 choose-requires c κs = search needs
 
--- src/periods.rt:159:16
 add-used : tie.Need-add-used Inv-rows μ-rows
 add-used c = let h = one-at-most (c .before .is-used .result) (c .choose .result) (c .choose .ensures) in omega arith
 
--- src/periods.rt:160:9
 add-i : tie.Need-add-i Inv-rows μ-rows
 add-i c = omega arith
 
--- src/periods.rt:157:5
 rows-less : tie.Need-rows-less Inv-rows μ-rows
 rows-less c = omega arith
 
--- src/periods.rt:157:5
 rows-again : tie.Need-rows-again Inv-rows μ-rows
 rows-again c = (omega arith, (let h = one-at-most (c .before .is-used .result) (c .choose .result) (c .choose .ensures) in omega arith, count-more (c .before .before .before .before .before .before .args .n) (λ x. byteAt (c .before .before .before .before .before .before .args .work .now) (valuePlace x)) (c .before .before .before .before .rows .i) (c .before .before .before .before .rows .used) (c .choose .result) (c .before .before .before .before .rows .inv .1 .1) ((c .choose .ensures) ∙ ap (λ (t : Bool). cond t 1 0) ((c .before .is-used .ensures) ∙ ap (isUsed (c .before .before .before .before .before .before .args .n)) (c .before .before .read-u8 .ensures .0)))))
 
--- src/periods.rt:151:1
 returns : tie.Need-returns Inv-rows μ-rows
 returns c = let e : (c .before .rows .i) ≡ (c .before .before .before .args .rows) = omega arith in (c .before .rows .inv .1 .1) ∙ ap (λ (k : ℕ). usedCount (periodBytes (c .before .before .before .args .work .now) k) (c .before .before .before .args .n)) e
 

@@ -22,35 +22,27 @@ Inv-rows file rows work₀ stem cycle m i₀ j₀ work i j = (i ≤ rows) × ((j
 abbrev μ-rows : tie.MeasureT-rows
 μ-rows file rows work₀ stem cycle m i₀ j₀ work i j = rows - i
 
--- src/periods.rt:119:13
 add-m : tie.Need-add-m Inv-rows μ-rows
 add-m c = let s = lasso-short (c .before .before .pre .1 .1 .1) in let s0 = s .0 in omega arith
 
--- src/periods.rt:122:5
 rows-holds : tie.Need-rows-holds Inv-rows μ-rows
 rows-holds c = (omega arith, (refl, (kept-none (valuePlace 0) (valuePlace mostOriginalRows) (c .before .before .args .work .now), record { lassoed = (c .before .before .pre .1 .1 .1); periods = λ x h. absurd (omega arith) })))
 
--- src/periods.rt:123:9
 period-row-requires : tie.Need-period-row-requires Inv-rows μ-rows
 period-row-requires c κs = (record { ready = (c .before .before .before .before .before .pre .0); within = omega arith; number = (c .before .before .rows .inv .1 .0) }, (let a = (c .before .before .before .before .before .pre .1 .0) in let b = (c .before .before .before .before .before .pre .1 .1 .0) in omega arith, ((c .before .before .before .before .before .pre .1 .1 .0), (c .before .before .rows .inv .1 .1 .1))))
 
--- src/periods.rt:124:9
 add-i : tie.Need-add-i Inv-rows μ-rows
 add-i c = omega arith
 
--- src/periods.rt:122:5
 rows-less : tie.Need-rows-less Inv-rows μ-rows
 rows-less c = omega arith
 
--- src/periods.rt:122:5
 rows-again : tie.Need-rows-again Inv-rows μ-rows
 rows-again c = (omega arith, ((c .before .before .period-row .ensures .0), (kept-join (valuePlace 0) (valuePlace mostOriginalRows) (c .before .before .before .before .before .before .before .before .args .work .now) (c .before .before .before .before .before .rows .work) (c .before .before .period-row .last .1 .1 .1 .1 .0) (c .before .before .before .before .before .rows .inv .1 .1 .0) (c .before .before .period-row .ensures .1 .0) (omega arith) (omega arith) (omega arith) (omega arith), (c .before .before .period-row .ensures .1 .1))))
 
--- src/periods.rt:114:1
 same-length : tie.Need-same-length Inv-rows μ-rows
 same-length c = search needs
 
--- src/periods.rt:114:1
 returns : tie.Need-returns Inv-rows μ-rows
 returns c = let e : (c .before .rows .i) ≡ (c .before .before .before .before .args .rows) = omega arith in ((c .before .rows .inv .1 .1 .0), subst (PeriodPart (netlistOf (c .before .before .before .before .args .file .now)) (c .before .rows .work)) e (c .before .rows .inv .1 .1 .1))
 

@@ -13,35 +13,27 @@ use Rattle.lasso_finder.proofs.periods.holds_as.Reads as reads
 use Rattle.lasso_finder.proofs.periods.holds_as.Lts as lts
 use Rattle.lasso_finder.proofs.states.register_code.Reads as register-code-reads
 
--- src/periods.rt:23:62
 mul-register-code : tie.Need-mul-register-code
 mul-register-code c = search needs
 
--- src/periods.rt:23:44
 add-register-code : tie.Need-add-register-code
 add-register-code c = search needs
 
--- src/periods.rt:23:9
 register-code-requires : tie.Need-register-code-requires
 register-code-requires c κs = search needs
 
--- src/periods.rt:24:63
 mul-register-code-2 : tie.Need-mul-register-code-2
 mul-register-code-2 c = search needs
 
--- src/periods.rt:24:45
 add-register-code-2 : tie.Need-add-register-code-2
 add-register-code-2 c = search needs
 
--- src/periods.rt:24:9
 register-code-requires-2 : tie.Need-register-code-requires-2
 register-code-requires-2 c κs = search needs
 
--- src/periods.rt:26:9
 returns : tie.Need-returns
 returns c = holds-known (c .before .before .before .before .args .work .now) (c .before .before .before .before .args .j) (c .before .before .before .before .args .t) (c .before .before .before .before .args .u) (c .before .before .register-code .result) (c .before .register-code2 .result) ((c .before .before .register-code .ensures .0) ∙ ap (λ (b : ℕ). codeAt (c .before .before .before .before .args .work .now) b (c .before .before .before .before .args .j)) (sym (place-early (c .before .before .before .before .args .t) (c .before .before .before .before .pre .0)))) ((c .before .register-code2 .ensures .0) ∙ ap (λ (b : ℕ). codeAt (c .before .before .before .before .args .work .now) b (c .before .before .before .before .args .j)) (sym (place-early (c .before .before .before .before .args .u) (c .before .before .before .before .pre .1 .0)))) (c .if1 .taken)
 
--- src/periods.rt:19:1
 returns-2 : tie.Need-returns-2
 returns-2 c = holds-unknown (c .before .before .before .before .args .work .now) (c .before .before .before .before .args .j) (c .before .before .before .before .args .t) (c .before .before .before .before .args .u) (c .before .before .register-code .result) ((c .before .before .register-code .ensures .0) ∙ ap (λ (b : ℕ). codeAt (c .before .before .before .before .args .work .now) b (c .before .before .before .before .args .j)) (sym (place-early (c .before .before .before .before .args .t) (c .before .before .before .before .pre .0)))) (omega arith)
 

@@ -10,19 +10,15 @@ use Rattle.lasso_finder.proofs.periods.is_generator.Reads as reads
 use Rattle.lasso_finder.proofs.periods.is_generator.Lts as lts
 use Rattle.lasso_finder.proofs.periods.repeats.Reads as repeats-reads
 
--- src/periods.rt:66:8
 rem-if1 : tie.Need-rem-if1
 rem-if1 c = search needs
 
--- src/periods.rt:67:9
 repeats-requires : tie.Need-repeats-requires
 repeats-requires c κs = search needs
 
--- src/periods.rt:67:9
 returns : tie.Need-returns
 returns c = rw (eq-eqb ((c .before .before .before .args .cycle) % (c .before .before .before .args .p)) 0 (c .before .if1 .taken)) (c .repeats .ensures)
 
--- src/periods.rt:61:1
 returns-2 : tie.Need-returns-2
 returns-2 c = rw (ne-eqb ((c .before .before .args .cycle) % (c .before .before .args .p)) 0 (c .if1 .left)) refl
 

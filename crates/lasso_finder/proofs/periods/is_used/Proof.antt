@@ -7,15 +7,12 @@ use Rattle.lasso_finder.proofs.periods.is_used.Tie as tie
 use Rattle.lasso_finder.proofs.periods.is_used.Reads as reads
 use Rattle.lasso_finder.proofs.periods.is_used.Lts as lts
 
--- src/periods.rt:135:9
 returns : tie.Need-returns
 returns c = used-zero (c .before .args .n) (c .before .args .p) (c .if1 .taken)
 
--- src/periods.rt:137:5
 rem-result : tie.Need-rem-result
 rem-result c = search needs
 
--- src/periods.rt:131:1
 returns-2 : tie.Need-returns-2
 returns-2 c = used-some (c .before .args .n) (c .before .args .p) (c .if1 .left)
 

@@ -9,19 +9,15 @@ use Rattle.lasso_finder.proofs.periods.next_phase.Tie as tie
 use Rattle.lasso_finder.proofs.periods.next_phase.Reads as reads
 use Rattle.lasso_finder.proofs.periods.next_phase.Lts as lts
 
--- src/periods.rt:36:8
 add-if1 : tie.Need-add-if1
 add-if1 c = search needs
 
--- src/periods.rt:37:9
 returns : tie.Need-returns
 returns c = rw (eq-eqb ((c .before .args .u) + 1) (c .before .args .p) (c .if1 .taken)) refl
 
--- src/periods.rt:39:5
 add-result : tie.Need-add-result
 add-result c = search needs
 
--- src/periods.rt:32:1
 returns-2 : tie.Need-returns-2
 returns-2 c = rw (ne-eqb ((c .before .args .u) + 1) (c .before .args .p) (c .if1 .left)) refl
 

@@ -13,43 +13,33 @@ use Rattle.lasso_finder.proofs.periods.period_row.Lts as lts
 use Rattle.blockfile.proofs.read_row.Reads as read-row-reads
 use Rattle.lasso_finder.proofs.periods.short_period.Reads as short-period-reads
 
--- src/periods.rt:101:9
 read-row-requires : tie.Need-read-row-requires
 read-row-requires c κs = read-asks (c .before .before .pre .0)
 
--- src/periods.rt:103:17
 add-place : tie.Need-add-place
 add-place c = let h = row-small (c .before .before .before .pre .0) in omega arith
 
--- src/periods.rt:105:13
 short-period-requires : tie.Need-short-period-requires
 short-period-requires c κs = period-asks (c .before .before .before .before .before .pre .0) (c .before .before .read-row .result) (c .before .before .read-row .ensures .0) (c .before .before .before .before .before .pre .1 .0) (c .before .before .before .before .before .pre .1 .1 .0) (c .before .before .before .before .before .pre .1 .1 .1) (register-yes (c .before .before .before .before .before .pre .0) (c .before .before .read-row .result) (c .before .before .read-row .ensures .0) (c .before .if1 .taken))
 
--- src/periods.rt:106:9
 slice-write-work : tie.Need-slice-write-work
 slice-write-work c = let h = row-small (c .before .before .before .before .before .before .pre .0) in let r = (c .before .before .before .before .before .before .pre .1 .1 .1 .lassoed .room) in omega arith
 
--- src/periods.rt:107:16
 add-result : tie.Need-add-result
 add-result c = let h = number-small (c .before .before .before .before .before .before .pre .0) in omega arith
 
--- src/periods.rt:107:9
 same-length : tie.Need-same-length
 same-length c = search needs
 
--- src/periods.rt:107:9
 returns : tie.Need-returns
 returns c = (number-yes (c .before .before .before .before .before .before .pre .0) (c .before .before .before .read-row .result) (c .before .before .before .read-row .ensures .0) (c .before .before .if1 .taken), period-more (c .before .before .before .before .before .before .pre .0) (c .before .before .before .read-row .result) (c .before .before .before .read-row .ensures .0) (c .before .before .before .before .before .before .pre .1 .0) (c .before .before .before .before .before .before .pre .1 .1 .0) (c .before .before .before .before .before .before .pre .1 .1 .1) (c .short-period .result) true (register-yes (c .before .before .before .before .before .before .pre .0) (c .before .before .before .read-row .result) (c .before .before .before .read-row .ensures .0) (c .before .before .if1 .taken)) (c .short-period .ensures))
 
--- src/periods.rt:109:5
 slice-write-work-2 : tie.Need-slice-write-work-2
 slice-write-work-2 c = let h = row-small (c .before .before .before .before .pre .0) in let r = (c .before .before .before .before .pre .1 .1 .1 .lassoed .room) in omega arith
 
--- src/periods.rt:88:1
 same-length-2 : tie.Need-same-length-2
 same-length-2 c = search needs
 
--- src/periods.rt:88:1
 returns-2 : tie.Need-returns-2
 returns-2 c = (number-no (c .before .before .before .before .pre .0) (c .before .read-row .result) (c .before .read-row .ensures .0) (c .if1 .left), period-more (c .before .before .before .before .pre .0) (c .before .read-row .result) (c .before .read-row .ensures .0) (c .before .before .before .before .pre .1 .0) (c .before .before .before .before .pre .1 .1 .0) (c .before .before .before .before .pre .1 .1 .1) 0 false (register-no (c .before .before .before .before .pre .0) (c .before .read-row .result) (c .before .read-row .ensures .0) (c .if1 .left)) refl)
 

@@ -11,15 +11,12 @@ use Rattle.lasso_finder.proofs.periods.phase_count.Reads as reads
 use Rattle.lasso_finder.proofs.periods.phase_count.Lts as lts
 use Rattle.lasso_finder.proofs.periods.best_phases.Reads as best-phases-reads
 
--- src/periods.rt:190:9
 best-phases-requires : tie.Need-best-phases-requires
 best-phases-requires c κs = search needs
 
--- src/periods.rt:190:9
 returns : tie.Need-returns
 returns c = wish-none (c .before .before .before .args .wish) (periodBytes (c .before .before .before .args .work .now) (c .before .before .before .args .rows)) (c .best-phases .result) (c .before .if1 .taken) (c .best-phases .ensures)
 
--- src/periods.rt:185:1
 returns-2 : tie.Need-returns-2
 returns-2 c = sym (phases-wish (c .before .before .args .wish) (periodBytes (c .before .before .args .work .now) (c .before .before .args .rows)) (search needs))
 

@@ -22,35 +22,27 @@ Inv-states work m j p t₀ u₀ t u = (t ≤ m) × ((u ≡ t % p) × (repeatsIn 
 abbrev μ-states : tie.MeasureT-states
 μ-states work m j p t₀ u₀ t u = m - t
 
--- src/periods.rt:50:5
 states-holds : tie.Need-states-holds Inv-states μ-states
 states-holds c = (omega arith, (sym (mod-eq-of-lt (omega arith)), refl))
 
--- src/periods.rt:51:13
 holds-as-requires : tie.Need-holds-as-requires Inv-states μ-states
 holds-as-requires c κs = let a = (c .before .states .inv .1 .0) in let b = mod-le (c .before .states .t) (c .before .before .before .args .p) in (omega arith, (omega arith, (c .before .before .before .pre .0 .1)))
 
--- src/periods.rt:52:13
 returns : tie.Need-returns Inv-states μ-states
 returns c = sym (allBelow-no (c .before .before .before .before .before .args .m) (λ x. holdsAs (c .before .before .before .before .before .args .work .now) (c .before .before .before .before .before .args .j) x (x % (c .before .before .before .before .before .args .p))) (c .before .before .before .states .t) (omega arith) (ap (holdsAs (c .before .before .before .before .before .args .work .now) (c .before .before .before .before .before .args .j) (c .before .before .before .states .t)) (sym (c .before .before .before .states .inv .1 .0)) ∙ sym (c .before .holds-as .ensures) ∙ not-true (c .before .holds-as .result) (c .if1 .taken)))
 
--- src/periods.rt:54:9
 next-phase-requires : tie.Need-next-phase-requires Inv-states μ-states
 next-phase-requires c κs = let a = (c .before .before .before .states .inv .1 .0) in let b = mod-lt (c .before .before .before .states .t) {m = (c .before .before .before .before .before .args .p)} (omega arith) in (omega arith, omega arith)
 
--- src/periods.rt:55:9
 add-t : tie.Need-add-t Inv-states μ-states
 add-t c = omega arith
 
--- src/periods.rt:50:5
 states-less : tie.Need-states-less Inv-states μ-states
 states-less c = omega arith
 
--- src/periods.rt:50:5
 states-again : tie.Need-states-again Inv-states μ-states
 states-again c = (omega arith, (mod-next (c .before .before .before .before .states .t) (c .before .before .before .before .states .u) (c .before .before .before .before .before .before .args .p) (c .next-phase .result) (omega arith) (c .before .before .before .before .states .inv .1 .0) (c .next-phase .ensures), allBelow-more (c .before .before .before .before .states .t) (λ x. holdsAs (c .before .before .before .before .before .before .args .work .now) (c .before .before .before .before .before .before .args .j) x (x % (c .before .before .before .before .before .before .args .p))) (c .before .before .before .before .states .inv .1 .1) (ap (holdsAs (c .before .before .before .before .before .before .args .work .now) (c .before .before .before .before .before .before .args .j) (c .before .before .before .before .states .t)) (sym (c .before .before .before .before .states .inv .1 .0)) ∙ sym (c .before .before .holds-as .ensures) ∙ not-false (c .before .before .holds-as .result) (c .before .if1 .left))))
 
--- src/periods.rt:43:1
 returns-2 : tie.Need-returns-2 Inv-states μ-states
 returns-2 c = let e : (c .before .states .t) ≡ (c .before .before .before .args .m) = omega arith in sym (subst (λ (k : ℕ). repeatsIn (c .before .before .before .args .work .now) k (c .before .before .before .args .j) (c .before .before .before .args .p) ≡ true) e (c .before .states .inv .1 .1))
 

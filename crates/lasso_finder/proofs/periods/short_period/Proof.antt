@@ -20,35 +20,27 @@ Inv-lengths work m cycle j p₀ p = (1 ≤ p) × ((p ≤ suc mostPhases) × ((q 
 abbrev μ-lengths : tie.MeasureT-lengths
 μ-lengths work m cycle j p₀ p = suc mostPhases - p
 
--- src/periods.rt:78:5
 lengths-holds : tie.Need-lengths-holds Inv-lengths μ-lengths
 lengths-holds c = (omega arith, (omega arith, λ q a b. absurd (omega arith)))
 
--- src/periods.rt:79:12
 is-generator-requires : tie.Need-is-generator-requires Inv-lengths μ-lengths
 is-generator-requires c κs = ((c .before .before .before .pre), (omega arith, omega arith))
 
--- src/periods.rt:80:20
 cast-result : tie.Need-cast-result Inv-lengths μ-lengths
 cast-result c = omega arith
 
--- src/periods.rt:80:13
 returns : tie.Need-returns Inv-lengths μ-lengths
 returns c = period-found (generatorIn (c .before .before .before .before .before .args .work .now) (c .before .before .before .before .before .args .m) (c .before .before .before .before .before .args .cycle) (c .before .before .before .before .before .args .j)) (c .before .before .before .lengths .p) (omega arith) (omega arith) (c .before .before .before .lengths .inv .1 .1) (sym (c .before .is-generator .ensures) ∙ (c .if1 .taken))
 
--- src/periods.rt:82:9
 add-p : tie.Need-add-p Inv-lengths μ-lengths
 add-p c = omega arith
 
--- src/periods.rt:78:5
 lengths-less : tie.Need-lengths-less Inv-lengths μ-lengths
 lengths-less c = omega arith
 
--- src/periods.rt:78:5
 lengths-again : tie.Need-lengths-again Inv-lengths μ-lengths
 lengths-again c = (omega arith, (omega arith, λ q a b. last-or q (c .before .before .before .lengths .p) (omega arith) (λ l. (c .before .before .before .lengths .inv .1 .1) q a l) (λ e. rw e (sym (c .before .is-generator .ensures) ∙ (c .if1 .left)))))
 
--- src/periods.rt:73:1
 returns-2 : tie.Need-returns-2 Inv-lengths μ-lengths
 returns-2 c = period-missing (generatorIn (c .before .before .before .args .work .now) (c .before .before .before .args .m) (c .before .before .before .args .cycle) (c .before .before .before .args .j)) (λ q a b. (c .before .lengths .inv .1 .1) q a (omega arith))
 

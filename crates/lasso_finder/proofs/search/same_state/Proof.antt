@@ -19,51 +19,39 @@ Inv-words work a b words k₀ k = (k ≤ words) × (allBelow k (sameWord work a 
 abbrev μ-words : tie.MeasureT-words
 μ-words work a b words k₀ k = words - k
 
--- src/search.rt:30:5
 words-holds : tie.Need-words-holds Inv-words μ-words
 words-holds c = (omega arith, refl)
 
--- src/search.rt:31:35
 mul-word-at : tie.Need-mul-word-at Inv-words μ-words
 mul-word-at c = omega arith
 
--- src/search.rt:31:31
 add-word-at : tie.Need-add-word-at Inv-words μ-words
 add-word-at c = omega arith
 
--- src/search.rt:31:13
 word-at-requires : tie.Need-word-at-requires Inv-words μ-words
 word-at-requires c κs = omega arith
 
--- src/search.rt:32:35
 mul-word-at-2 : tie.Need-mul-word-at-2 Inv-words μ-words
 mul-word-at-2 c = omega arith
 
--- src/search.rt:32:31
 add-word-at-2 : tie.Need-add-word-at-2 Inv-words μ-words
 add-word-at-2 c = omega arith
 
--- src/search.rt:32:13
 word-at-requires-2 : tie.Need-word-at-requires-2 Inv-words μ-words
 word-at-requires-2 c κs = omega arith
 
--- src/search.rt:34:13
 returns : tie.Need-returns Inv-words μ-words
 returns c = sym (allBelow-no (c .before .before .before .before .before .before .args .words) (sameWord (c .before .before .before .before .before .before .args .work .now) (c .before .before .before .before .before .before .args .a) (c .before .before .before .before .before .before .args .b)) (c .before .before .before .before .words .k) (omega arith) (words-differ (c .before .before .before .before .before .before .args .work .now) (c .before .before .before .before .before .before .args .a) (c .before .before .before .before .before .before .args .b) (c .before .before .before .before .words .k) (c .before .before .word-at .result) (c .before .word-at2 .result) (c .before .before .word-at .ensures) (c .before .word-at2 .ensures) (c .if1 .taken)))
 
--- src/search.rt:36:9
 add-k : tie.Need-add-k Inv-words μ-words
 add-k c = omega arith
 
--- src/search.rt:30:5
 words-less : tie.Need-words-less Inv-words μ-words
 words-less c = omega arith
 
--- src/search.rt:30:5
 words-again : tie.Need-words-again Inv-words μ-words
 words-again c = (omega arith, allBelow-more (c .before .before .before .before .words .k) (sameWord (c .before .before .before .before .before .before .args .work .now) (c .before .before .before .before .before .before .args .a) (c .before .before .before .before .before .before .args .b)) (c .before .before .before .before .words .inv .1) (words-agree (c .before .before .before .before .before .before .args .work .now) (c .before .before .before .before .before .before .args .a) (c .before .before .before .before .before .before .args .b) (c .before .before .before .before .words .k) (c .before .before .word-at .result) (c .before .word-at2 .result) (c .before .before .word-at .ensures) (c .before .word-at2 .ensures) (c .if1 .left)))
 
--- src/search.rt:25:1
 returns-2 : tie.Need-returns-2 Inv-words μ-words
 returns-2 c = let e : (c .before .words .k) ≡ (c .before .before .before .args .words) = omega arith in sym (sym (ap (λ (n : ℕ). allBelow n (sameWord (c .before .before .before .args .work .now) (c .before .before .before .args .a) (c .before .before .before .args .b))) e) ∙ (c .before .words .inv .1))
 

@@ -10,23 +10,18 @@ use Rattle.lasso_finder.proofs.states.advance.Lts as lts
 use Rattle.lasso_finder.proofs.states.evaluate.Reads as evaluate-reads
 use Rattle.lasso_finder.proofs.states.pack_next.Reads as pack-next-reads
 
--- src/states.rt:225:16
 sub-last : tie.Need-sub-last
 sub-last c = search needs
 
--- src/states.rt:226:5
 evaluate-requires : tie.Need-evaluate-requires
 evaluate-requires c κs = ((c .before .before .before .pre .0 .0), (omega arith, evaluate-asks (c .before .before .before .pre .1 .0) (c .before .before .before .pre .1 .1 .0) (c .before .before .before .pre .1 .1 .1)))
 
--- src/states.rt:227:5
 pack-next-requires : tie.Need-pack-next-requires
 pack-next-requires c κs = pack-asks (c .before .before .before .before .before .before .before .pre .1 .0) (c .before .before .before .before .before .before .before .pre .1 .1 .0) (c .before .before .before .before .before .before .before .pre .1 .1 .1) (c .before .before .before .before .before .before .before .pre .0 .0 .accepted) (c .before .before .before .before .before .before .before .pre .0 .0 .registers) (c .before .before .before .before .before .before .before .pre .0 .0 .count) (c .before .before .before .before .before .before .before .pre .0 .1) (c .before .before .before .evaluate .ensures .0) (c .before .before .before .evaluate .ensures .1)
 
--- src/states.rt:220:1
 same-length : tie.Need-same-length
 same-length c = search needs
 
--- src/states.rt:220:1
 returns : tie.Need-returns
 returns c = (advance-kept (c .before .before .before .before .before .before .before .before .before .before .pre .1 .0) (c .before .before .before .before .before .before .before .before .before .before .pre .1 .1 .0) (c .before .before .before .before .before .before .before .before .before .before .pre .1 .1 .1) (c .before .before .before .before .before .before .before .before .before .before .pre .0 .0 .accepted) (c .before .before .before .before .before .before .before .before .before .before .pre .0 .0 .registers) (c .before .before .before .before .before .before .before .before .before .before .pre .0 .0 .count) (c .before .before .before .before .before .before .before .before .before .before .pre .0 .1) (c .before .before .before .before .before .before .evaluate .ensures .0) (c .before .before .before .before .before .before .evaluate .ensures .1) (c .before .before .pack-next .ensures .0) (c .before .before .pack-next .ensures .1), advance-done (c .before .before .before .before .before .before .before .before .before .before .pre .1 .0) (c .before .before .before .before .before .before .before .before .before .before .pre .1 .1 .0) (c .before .before .before .before .before .before .before .before .before .before .pre .1 .1 .1) (c .before .before .before .before .before .before .before .before .before .before .pre .0 .0 .accepted) (c .before .before .before .before .before .before .before .before .before .before .pre .0 .0 .registers) (c .before .before .before .before .before .before .before .before .before .before .pre .0 .0 .count) (c .before .before .before .before .before .before .before .before .before .before .pre .0 .1) (c .before .before .before .before .before .before .evaluate .ensures .0) (c .before .before .before .before .before .before .evaluate .ensures .1) (c .before .before .pack-next .ensures .0) (c .before .before .pack-next .ensures .1))
 

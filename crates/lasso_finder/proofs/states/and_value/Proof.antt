@@ -11,19 +11,15 @@ use Rattle.lasso_finder.proofs.states.and_value.Lts as lts
 use Rattle.lasso_finder.proofs.states.literal_value.Reads as literal-value-reads
 use Rattle.ternary.proofs.lookup_and.Reads as lookup-and-reads
 
--- src/states.rt:55:9
 literal-value-requires : tie.Need-literal-value-requires
 literal-value-requires c κs = search needs
 
--- src/states.rt:56:9
 literal-value-requires-2 : tie.Need-literal-value-requires-2
 literal-value-requires-2 c κs = search needs
 
--- src/states.rt:57:5
 lookup-and-requires : tie.Need-lookup-and-requires
 lookup-and-requires c κs = search needs
 
--- src/states.rt:51:1
 returns : tie.Need-returns
 returns c = gate-of-two and3 (literalIn (c .before .before .before .before .args .work .now) (c .before .before .before .before .args .a)) (literalIn (c .before .before .before .before .args .work .now) (c .before .before .before .before .args .b)) (c .before .before .literal-value .result) (c .before .literal-value2 .result) (c .lookup-and .result) (c .before .before .literal-value .ensures) (c .before .literal-value2 .ensures) (c .lookup-and .ensures)
 

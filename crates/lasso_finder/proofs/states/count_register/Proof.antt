@@ -9,15 +9,12 @@ use Rattle.lasso_finder.proofs.states.count_register.Tie as tie
 use Rattle.lasso_finder.proofs.states.count_register.Reads as reads
 use Rattle.lasso_finder.proofs.states.count_register.Lts as lts
 
--- src/states.rt:108:16
 add-result : tie.Need-add-result
 add-result c = search needs
 
--- src/states.rt:108:9
 returns : tie.Need-returns
 returns c = rw (eq-eqb (c .before .args .kind) 2 (c .if1 .taken)) refl
 
--- src/states.rt:103:1
 returns-2 : tie.Need-returns-2
 returns-2 c = rw (ne-eqb (c .before .args .kind) 2 (c .if1 .left)) (omega arith)
 

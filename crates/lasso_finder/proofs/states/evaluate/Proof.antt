@@ -23,35 +23,27 @@ Inv-each-block file rows work₀ t start₀ first₀ j₀ work start first j = (
 abbrev μ-each-block : tie.MeasureT-each-block
 μ-each-block file rows work₀ t start₀ first₀ j₀ work start first j = rows - start
 
--- src/states.rt:194:5
 each-block-holds : tie.Need-each-block-holds Inv-each-block μ-each-block
 each-block-holds c = (omega arith, (λ h. (refl, refl), (refl, (kept-none (valuePlace 0) (valuePlace mostOriginalRows) (c .before .before .args .work .now), (c .before .before .pre .1 .1)))))
 
--- src/states.rt:195:13
 block-stop-requires : tie.Need-block-stop-requires Inv-each-block μ-each-block
 block-stop-requires c κs = ((c .each-block-test .taken), rows-small (c .before .before .before .before .pre .0))
 
--- src/states.rt:196:9
 evaluate-block-requires : tie.Need-evaluate-block-requires Inv-each-block μ-each-block
 evaluate-block-requires c κs = (block-of (c .before .before .each-block-test .taken) (c .before .before .before .each-block .inv .1 .0) (c .before .block-stop .ensures) (c .before .before .before .before .before .before .pre .0) (c .before .before .before .each-block .inv .1 .1 .0), ((c .before .before .before .before .before .before .pre .1 .0), (c .before .before .before .each-block .inv .1 .1 .1 .1)))
 
--- src/states.rt:198:9
 add-first : tie.Need-add-first Inv-each-block μ-each-block
 add-first c = let h = first-small (c .before .before .before .before .before .each-block-test .taken) (c .before .before .before .before .before .before .each-block .inv .1 .0) (c .before .before .before .before .block-stop .ensures) (rows-small (c .before .before .before .before .before .before .before .before .before .pre .0)) in omega arith
 
--- src/states.rt:194:5
 each-block-less : tie.Need-each-block-less Inv-each-block μ-each-block
 each-block-less c = let h = (c .before .before .before .before .block-stop .ensures .from) in omega arith
 
--- src/states.rt:194:5
 each-block-again : tie.Need-each-block-again Inv-each-block μ-each-block
 each-block-again c = ((c .before .before .before .before .block-stop .ensures .within), (block-next (c .before .before .before .before .before .each-block-test .taken) (c .before .before .before .before .before .before .each-block .inv .1 .0) (c .before .before .before .before .block-stop .ensures), ((c .before .before .evaluate-block .ensures .0), (kept-join (valuePlace 0) (valuePlace mostOriginalRows) (c .before .before .before .before .before .before .before .before .before .args .work .now) (c .before .before .before .before .before .before .each-block .work) (c .before .before .evaluate-block .last .1 .1 .1 .1 .1 .1 .0) (c .before .before .before .before .before .before .each-block .inv .1 .1 .1 .0) (c .before .before .evaluate-block .ensures .1 .0) (omega arith) (omega arith) (omega arith) (omega arith), (c .before .before .evaluate-block .ensures .1 .1)))))
 
--- src/states.rt:186:1
 same-length : tie.Need-same-length Inv-each-block μ-each-block
 same-length c = search needs
 
--- src/states.rt:186:1
 returns : tie.Need-returns Inv-each-block μ-each-block
 returns c = let e : (c .before .each-block .start) ≡ (c .before .before .before .before .args .rows) = omega arith in ((c .before .each-block .inv .1 .1 .1 .0), subst (Evaluated (netlistOf (c .before .before .before .before .args .file .now)) (c .before .each-block .work) (c .before .before .before .before .args .t)) e (c .before .each-block .inv .1 .1 .1 .1))
 

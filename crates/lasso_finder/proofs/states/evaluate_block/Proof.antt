@@ -22,35 +22,27 @@ Inv-rows file rows start stop first before work₀ t i₀ place₀ j₀ work i p
 abbrev μ-rows : tie.MeasureT-rows
 μ-rows file rows start stop first before work₀ t i₀ place₀ j₀ work i place j = stop - i
 
--- src/states.rt:165:5
 rows-holds : tie.Need-rows-holds Inv-rows μ-rows
 rows-holds c = (omega arith, ((c .before .before .pre .0 .from), (omega arith, ((c .before .before .pre .0 .number), (kept-none (valuePlace 0) (valuePlace mostOriginalRows) (c .before .before .args .work .now), (c .before .before .pre .1 .1))))))
 
--- src/states.rt:166:9
 evaluate-row-requires : tie.Need-evaluate-row-requires Inv-rows μ-rows
 evaluate-row-requires c κs = (block-row (c .before .before .before .before .before .pre .0) (c .before .before .rows .inv .0) (c .before .rows-test .taken) (c .before .before .rows .inv .1 .1 .0) (c .before .before .rows .inv .1 .1 .1 .0), ((c .before .before .before .before .before .pre .1 .0), (c .before .before .rows .inv .1 .1 .1 .1 .1)))
 
--- src/states.rt:167:9
 add-i : tie.Need-add-i Inv-rows μ-rows
 add-i c = omega arith
 
--- src/states.rt:168:9
 add-place : tie.Need-add-place Inv-rows μ-rows
 add-place c = let h = place-small (c .before .before .before .before .before .before .before .before .pre .0) (c .before .before .before .before .before .rows .inv .0) (c .before .before .before .before .rows-test .taken) (c .before .before .before .before .before .rows .inv .1 .1 .0) in omega arith
 
--- src/states.rt:165:5
 rows-less : tie.Need-rows-less Inv-rows μ-rows
 rows-less c = omega arith
 
--- src/states.rt:165:5
 rows-again : tie.Need-rows-again Inv-rows μ-rows
 rows-again c = (omega arith, (omega arith, (omega arith, ((c .before .before .evaluate-row .ensures .0), (kept-join (valuePlace 0) (valuePlace mostOriginalRows) (c .before .before .before .before .before .before .before .before .args .work .now) (c .before .before .before .before .before .rows .work) (c .before .before .evaluate-row .last .1 .1 .1 .1 .1 .0) (c .before .before .before .before .before .rows .inv .1 .1 .1 .1 .0) (c .before .before .evaluate-row .ensures .1 .0) (omega arith) (omega arith) (omega arith) (omega arith), (c .before .before .evaluate-row .ensures .1 .1))))))
 
--- src/states.rt:148:1
 same-length : tie.Need-same-length Inv-rows μ-rows
 same-length c = search needs
 
--- src/states.rt:148:1
 returns : tie.Need-returns Inv-rows μ-rows
 returns c = let e : (c .before .rows .i) ≡ (c .before .before .before .before .args .stop) = omega arith in ((c .before .rows .inv .1 .1 .1 .0) ∙ ap (registersBefore (netlistOf (c .before .before .before .before .args .file .now))) e, ((c .before .rows .inv .1 .1 .1 .1 .0), subst (Evaluated (netlistOf (c .before .before .before .before .args .file .now)) (c .before .rows .work) (c .before .before .before .before .args .t)) e (c .before .rows .inv .1 .1 .1 .1 .1)))
 

@@ -13,39 +13,30 @@ use Rattle.blockfile.proofs.read_at.Reads as read-at-reads
 use Rattle.lasso_finder.proofs.states.count_register.Reads as count-register-reads
 use Rattle.lasso_finder.proofs.states.row_value.Reads as row-value-reads
 
--- src/states.rt:139:9
 read-at-requires : tie.Need-read-at-requires
 read-at-requires c κs = let h = read-asks (c .before .before .pre .0 .0) in let e = (c .before .before .pre .0 .1) in omega arith
 
--- src/states.rt:140:26
 mul-base : tie.Need-mul-base
 mul-base c = let h = (c .before .before .before .pre .1 .0) in omega arith
 
--- src/states.rt:140:16
 add-base : tie.Need-add-base
 add-base c = let h = (c .before .before .before .pre .1 .0) in omega arith
 
--- src/states.rt:141:9
 row-value-requires : tie.Need-row-value-requires
 row-value-requires c κs = row-asks (c .before .before .before .before .pre .0 .0) (c .before .read-at .result) ((c .before .read-at .ensures .0) ∙ ap (fieldsFrom (c .before .before .before .before .args .file .now)) (c .before .before .before .before .pre .0 .1)) (c .before .before .before .before .pre .1 .1) (sym (place-early (c .before .before .before .before .args .t) (c .before .before .before .before .pre .1 .0))) (c .before .before .before .before .pre .1 .0)
 
--- src/states.rt:142:14
 add-at : tie.Need-add-at
 add-at c = let h = row-small (c .before .before .before .before .before .pre .0 .0) in omega arith
 
--- src/states.rt:143:5
 slice-write-work : tie.Need-slice-write-work
 slice-write-work c = let h = row-small (c .before .before .before .before .before .pre .0 .0) in let r = (c .before .before .before .before .before .pre .1 .1 .coded .room) in omega arith
 
--- src/states.rt:144:5
 count-register-requires : tie.Need-count-register-requires
 count-register-requires c κs = let h = number-small (c .before .before .before .before .before .pre .0 .0) in omega arith
 
--- src/states.rt:126:1
 same-length : tie.Need-same-length
 same-length c = search needs
 
--- src/states.rt:126:1
 returns : tie.Need-returns
 returns c = (number-next (c .before .before .before .before .before .before .pre .0 .0) (c .before .before .before .read-at .result) ((c .before .before .before .read-at .ensures .0) ∙ ap (fieldsFrom (c .before .before .before .before .before .before .args .file .now)) (c .before .before .before .before .before .before .pre .0 .1)) (c .count-register .result) (c .count-register .ensures), evaluated-more (c .before .before .before .before .before .before .pre .0 .0) (c .before .before .before .read-at .result) ((c .before .before .before .read-at .ensures .0) ∙ ap (fieldsFrom (c .before .before .before .before .before .before .args .file .now)) (c .before .before .before .before .before .before .pre .0 .1)) (c .before .before .before .before .before .before .pre .1 .1) (sym (place-early (c .before .before .before .before .before .before .args .t) (c .before .before .before .before .before .before .pre .1 .0))) (c .before .row-value .result) (c .before .before .before .before .before .before .pre .1 .0) (c .before .row-value .ensures))
 

@@ -10,23 +10,18 @@ use Rattle.lasso_finder.proofs.states.literal_value.Reads as reads
 use Rattle.lasso_finder.proofs.states.literal_value.Lts as lts
 use Rattle.ternary.proofs.lookup_xor.Reads as lookup-xor-reads
 
--- src/states.rt:45:17
 add-place : tie.Need-add-place
 add-place c = search needs
 
--- src/states.rt:46:17
 shared-slice-read-value : tie.Need-shared-slice-read-value
 shared-slice-read-value c = let C = (c .before .before .pre .1) in search needs
 
--- src/states.rt:47:20
 cast-inverted : tie.Need-cast-inverted
 cast-inverted c = search needs
 
--- src/states.rt:48:5
 lookup-xor-requires : tie.Need-lookup-xor-requires
 lookup-xor-requires c κs = (omega arith, (c .before .before .pre .1 .code (c .before .before .args .literal / 2) (c .before .before .pre .0)))
 
--- src/states.rt:41:1
 returns : tie.Need-returns
 returns c = literal-by (c .before .before .before .args .work .now) (c .before .before .before .args .literal) (c .lookup-xor .result) (c .lookup-xor .ensures)
 

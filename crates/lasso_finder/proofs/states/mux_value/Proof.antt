@@ -11,23 +11,18 @@ use Rattle.lasso_finder.proofs.states.mux_value.Lts as lts
 use Rattle.lasso_finder.proofs.states.literal_value.Reads as literal-value-reads
 use Rattle.ternary.proofs.lookup_mux.Reads as lookup-mux-reads
 
--- src/states.rt:73:9
 literal-value-requires : tie.Need-literal-value-requires
 literal-value-requires c κs = search needs
 
--- src/states.rt:74:9
 literal-value-requires-2 : tie.Need-literal-value-requires-2
 literal-value-requires-2 c κs = search needs
 
--- src/states.rt:75:9
 literal-value-requires-3 : tie.Need-literal-value-requires-3
 literal-value-requires-3 c κs = search needs
 
--- src/states.rt:76:5
 lookup-mux-requires : tie.Need-lookup-mux-requires
 lookup-mux-requires c κs = search needs
 
--- src/states.rt:69:1
 returns : tie.Need-returns
 returns c = gate-of-three mux3 (literalIn (c .before .before .before .before .before .args .work .now) (c .before .before .before .before .before .args .a)) (literalIn (c .before .before .before .before .before .args .work .now) (c .before .before .before .before .before .args .b)) (literalIn (c .before .before .before .before .before .args .work .now) (c .before .before .before .before .before .args .c)) (c .before .before .before .literal-value .result) (c .before .before .literal-value2 .result) (c .before .literal-value3 .result) (c .lookup-mux .result) (c .before .before .before .literal-value .ensures) (c .before .before .literal-value2 .ensures) (c .before .literal-value3 .ensures) (c .lookup-mux .ensures)
 

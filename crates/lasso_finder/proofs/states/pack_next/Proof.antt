@@ -23,51 +23,39 @@ Inv-registers work₀ n m base j₀ work j = (j ≤ n) × (IsBytes work × (Stat
 abbrev μ-registers : tie.MeasureT-registers
 μ-registers work₀ n m base j₀ work j = n - j
 
--- src/states.rt:208:9
 state-place-requires : tie.Need-state-place-requires Inv-registers μ-registers
 state-place-requires c κs = (c .before .pre .known-state)
 
--- src/states.rt:210:5
 registers-holds : tie.Need-registers-holds Inv-registers μ-registers
 registers-holds c = (omega arith, (λ x. omega (arith, (c .before .slice-known .given) x), (kept-none (statePlace (c .before .before .args .m)) (statePlace (c .before .before .args .m) + stateBytes) (c .before .before .args .work .now), (c .before .before .pre .clear))))
 
--- src/states.rt:211:29
 mul-at : tie.Need-mul-at Inv-registers μ-registers
 mul-at c = let f = (c .before .before .before .before .pre .few) in omega arith
 
--- src/states.rt:211:21
 add-at : tie.Need-add-at Inv-registers μ-registers
 add-at c = let f = (c .before .before .before .before .pre .few) in omega arith
 
--- src/states.rt:212:13
 field-at-requires : tie.Need-field-at-requires Inv-registers μ-registers
 field-at-requires c κs = let f = (c .before .before .before .before .before .pre .few) in let r = (c .before .before .before .before .before .pre .coded .room) in let l = (c .before .before .registers .inv .1 .1 .0 .long) in omega arith
 
--- src/states.rt:213:13
 literal-value-requires : tie.Need-literal-value-requires Inv-registers μ-registers
 literal-value-requires c κs = literal-asks (c .before .before .before .before .before .before .before .pre) (c .before .before .before .registers-test .taken) (c .before .before .before .before .registers .inv .1 .1 .0) (c .before .field-at .ensures .0)
 
--- src/states.rt:214:9
 put-code-requires : tie.Need-put-code-requires Inv-registers μ-registers
 put-code-requires c κs = next-put-asks (c .before .before .before .before .before .before .before .before .before .pre) (c .before .before .before .before .before .registers-test .taken) (c .before .before .before .before .before .before .registers .inv .1 .1 .0) (c .before .before .before .field-at .ensures .0) (c .before .literal-value .ensures) (c .before .before .before .before .before .before .registers .inv .1 .1 .1) (c .before .before .before .before .before .before .before .state-place .ensures) (c .before .before .before .before .before .before .registers .inv .1 .0)
 
--- src/states.rt:215:9
 add-j : tie.Need-add-j Inv-registers μ-registers
 add-j c = omega arith
 
--- src/states.rt:210:5
 registers-less : tie.Need-registers-less Inv-registers μ-registers
 registers-less c = omega arith
 
--- src/states.rt:210:5
 registers-again : tie.Need-registers-again Inv-registers μ-registers
 registers-again c = (omega arith, (λ x. omega (arith, (c .slice-known2 .given) x), next-packed (c .before .before .before .before .before .before .before .before .before .before .before .before .pre) (c .before .before .before .before .before .before .before .before .registers-test .taken) (c .before .before .before .before .before .before .before .before .before .registers .inv .1 .1 .0) (c .before .before .before .before .before .before .field-at .ensures .0) (c .before .before .before .before .literal-value .ensures) (c .before .before .before .before .before .before .before .before .before .registers .inv .1 .1 .1) (c .before .before .before .before .before .before .before .before .before .before .state-place .ensures) (c .before .before .before .before .before .before .before .before .before .registers .inv .1 .0) (c .before .before .put-code .ensures)))
 
--- src/states.rt:204:1
 same-length : tie.Need-same-length Inv-registers μ-registers
 same-length c = (c .before .registers .inv .1 .1 .0 .long)
 
--- src/states.rt:204:1
 returns : tie.Need-returns Inv-registers μ-registers
 returns c = let e : (c .before .registers .j) ≡ (c .before .before .before .before .args .n) = omega arith in ((c .before .registers .inv .1 .1 .0), subst (λ k. Packed (c .before .registers .work) (statePlace (c .before .before .before .before .args .m)) (shownCodes (c .before .before .before .before .args .work .now) k)) e (c .before .registers .inv .1 .1 .1))
 

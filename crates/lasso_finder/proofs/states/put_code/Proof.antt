@@ -12,39 +12,30 @@ use Rattle.lasso_finder.proofs.states.put_code.Tie as tie
 use Rattle.lasso_finder.proofs.states.put_code.Reads as reads
 use Rattle.lasso_finder.proofs.states.put_code.Lts as lts
 
--- src/states.rt:150:17
 add-place : tie.Need-add-place
 add-place c = search needs
 
--- src/states.rt:151:17
 mul-shift : tie.Need-mul-shift
 mul-shift c = search needs
 
--- src/states.rt:152:18
 slice-read-before : tie.Need-slice-read-before
 slice-read-before c = search needs
 
--- src/states.rt:153:37
 cast-work : tie.Need-cast-work
 cast-work c = search needs
 
--- src/states.rt:153:29
 shl-work : tie.Need-shl-work
 shl-work c = search needs
 
--- src/states.rt:153:19
 add-work : tie.Need-add-work
 add-work c = record { fits = put-fits (byteAt (c .before .args .work .now) ((c .before .args .base) + (c .before .args .j) / 4)) (c .before .args .code) ((c .before .args .j) % 4) (c .before .pre .1 .0) (omega arith) (c .before .pre .1 .1) }
 
--- src/states.rt:153:5
 slice-write-work : tie.Need-slice-write-work
 slice-write-work c = search needs
 
--- src/states.rt:145:1
 same-length : tie.Need-same-length
 same-length c = search needs
 
--- src/states.rt:145:1
 returns : tie.Need-returns
 returns c = ap (λ (n : ℕ). set (c .before .args .work .now) ((c .before .args .base) + (c .before .args .j) / 4) (byteAt (c .before .args .work .now) ((c .before .args .base) + (c .before .args .j) / 4) + n)) (put-exact (c .before .args .code) ((c .before .args .j) % 4) (c .before .pre .1 .0) (omega arith))
 

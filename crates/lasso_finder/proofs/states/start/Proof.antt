@@ -22,31 +22,24 @@ Inv-rows file rows work₀ i₀ j₀ work i j = (i ≤ rows) × ((j ≡ register
 abbrev μ-rows : tie.MeasureT-rows
 μ-rows file rows work₀ i₀ j₀ work i j = rows - i
 
--- src/states.rt:194:5
 rows-holds : tie.Need-rows-holds Inv-rows μ-rows
 rows-holds c = (omega arith, (refl, (kept-none (statePlace 0) (nextPlace mostOriginalRegisters) (c .before .before .args .work .now), (c .before .before .pre .1))))
 
--- src/states.rt:195:9
 start-row-requires : tie.Need-start-row-requires Inv-rows μ-rows
 start-row-requires c κs = (record { ready = (c .before .before .before .before .before .pre .0); within = omega arith; number = (c .before .before .rows .inv .1 .0) }, (c .before .before .rows .inv .1 .1 .1))
 
--- src/states.rt:196:9
 add-i : tie.Need-add-i Inv-rows μ-rows
 add-i c = omega arith
 
--- src/states.rt:194:5
 rows-less : tie.Need-rows-less Inv-rows μ-rows
 rows-less c = omega arith
 
--- src/states.rt:194:5
 rows-again : tie.Need-rows-again Inv-rows μ-rows
 rows-again c = (omega arith, ((c .before .before .start-row .ensures .0), (kept-join (statePlace 0) (nextPlace mostOriginalRegisters) (c .before .before .before .before .before .before .before .before .args .work .now) (c .before .before .before .before .before .rows .work) (c .before .before .start-row .last .1 .1 .1 .1 .0) (c .before .before .before .before .before .rows .inv .1 .1 .0) (c .before .before .start-row .ensures .1 .0) (omega arith) (omega arith) (omega arith) (omega arith), (c .before .before .start-row .ensures .1 .1))))
 
--- src/states.rt:187:1
 same-length : tie.Need-same-length Inv-rows μ-rows
 same-length c = search needs
 
--- src/states.rt:187:1
 returns : tie.Need-returns Inv-rows μ-rows
 returns c = let e : (c .before .rows .i) ≡ (c .before .before .before .before .args .rows) = omega arith in ((c .before .rows .inv .1 .0) ∙ ap (registersBefore (netlistOf (c .before .before .before .before .args .file .now))) (e ∙ (c .before .before .before .before .pre .0 .count)) ∙ before-all (netlistOf (c .before .before .before .before .args .file .now)), ((c .before .rows .inv .1 .1 .0), subst (Started (netlistOf (c .before .before .before .before .args .file .now)) (c .before .rows .work)) e (c .before .rows .inv .1 .1 .1)))
 

@@ -14,31 +14,24 @@ use Rattle.blockfile.proofs.read_row.Reads as read-row-reads
 use Rattle.lasso_finder.proofs.states.list_next.Reads as list-next-reads
 use Rattle.lasso_finder.proofs.states.put_code.Reads as put-code-reads
 
--- src/states.rt:174:9
 read-row-requires : tie.Need-read-row-requires
 read-row-requires c κs = read-asks (c .before .before .pre .0)
 
--- src/states.rt:179:9
 put-code-requires : tie.Need-put-code-requires
 put-code-requires c κs = put-asks (c .before .before .before .before .before .pre .0) (c .before .before .read-row .result) (c .before .before .read-row .ensures .0) (register-yes (c .before .before .before .before .before .pre .0) (c .before .before .read-row .result) (c .before .before .read-row .ensures .0) (c .before .if1 .taken)) (c .before .before .before .before .before .pre .1) (λ x. omega (arith, (c .before .before .before .slice-known .given) x))
 
--- src/states.rt:180:9
 list-next-requires : tie.Need-list-next-requires
 list-next-requires c κs = let small = (c .before .before .before .before .before .before .read-row .ensures .1) in let l = list-asks (c .before .before .before .before .before .before .before .before .before .pre .0) (c .before .before .before .before .before .before .read-row .result) (c .before .before .before .before .before .before .read-row .ensures .0) (register-yes (c .before .before .before .before .before .before .before .before .before .pre .0) (c .before .before .before .before .before .before .read-row .result) (c .before .before .before .before .before .before .read-row .ensures .0) (c .before .before .before .before .before .if1 .taken)) (c .before .before .before .before .before .before .before .before .before .pre .1) (λ x. omega (arith, (c .before .before .before .before .before .before .before .slice-known .given) x)) (c .before .before .before .put-code .ensures) in (l .0, (omega arith, l .1))
 
--- src/states.rt:181:16
 add-result : tie.Need-add-result
 add-result c = let h = number-small (c .before .before .before .before .before .before .before .before .before .before .before .before .pre .0) in omega arith
 
--- src/states.rt:181:9
 same-length : tie.Need-same-length
 same-length c = search needs
 
--- src/states.rt:181:9
 returns : tie.Need-returns
 returns c = (number-yes (c .before .before .before .before .before .before .before .before .before .before .before .before .pre .0) (c .before .before .before .before .before .before .before .before .before .read-row .result) (c .before .before .before .before .before .before .before .before .before .read-row .ensures .0) (c .before .before .before .before .before .before .before .before .if1 .taken), started-more (c .before .before .before .before .before .before .before .before .before .before .before .before .pre .0) (c .before .before .before .before .before .before .before .before .before .read-row .result) (c .before .before .before .before .before .before .before .before .before .read-row .ensures .0) (register-yes (c .before .before .before .before .before .before .before .before .before .before .before .before .pre .0) (c .before .before .before .before .before .before .before .before .before .read-row .result) (c .before .before .before .before .before .before .before .before .before .read-row .ensures .0) (c .before .before .before .before .before .before .before .before .if1 .taken)) (c .before .before .before .before .before .before .before .before .before .before .before .before .pre .1) (λ x. omega (arith, (c .before .before .before .before .before .before .before .before .before .before .slice-known .given) x)) (c .before .before .before .before .before .before .put-code .ensures) (c .before .before .before .before .before .before .before .before .before .read-row .ensures .1 .a-small) (c .before .before .list-next .ensures))
 
--- src/states.rt:169:1
 returns-2 : tie.Need-returns-2
 returns-2 c = (number-no (c .before .before .before .before .pre .0) (c .before .read-row .result) (c .before .read-row .ensures .0) (c .if1 .left), (kept-none (statePlace 0) (nextPlace mostOriginalRegisters) (c .before .before .before .before .args .work .now), started-other (c .before .before .before .before .pre .0) (c .before .read-row .result) (c .before .read-row .ensures .0) (c .before .before .before .before .args .work .now) (register-no (c .before .before .before .before .pre .0) (c .before .read-row .result) (c .before .read-row .ensures .0) (c .if1 .left)) (c .before .before .before .before .pre .1)))
 

@@ -11,19 +11,15 @@ use Rattle.lasso_finder.proofs.states.xor_value.Lts as lts
 use Rattle.lasso_finder.proofs.states.literal_value.Reads as literal-value-reads
 use Rattle.ternary.proofs.lookup_xor.Reads as lookup-xor-reads
 
--- src/states.rt:64:9
 literal-value-requires : tie.Need-literal-value-requires
 literal-value-requires c κs = search needs
 
--- src/states.rt:65:9
 literal-value-requires-2 : tie.Need-literal-value-requires-2
 literal-value-requires-2 c κs = search needs
 
--- src/states.rt:66:5
 lookup-xor-requires : tie.Need-lookup-xor-requires
 lookup-xor-requires c κs = search needs
 
--- src/states.rt:60:1
 returns : tie.Need-returns
 returns c = gate-of-two xor3 (literalIn (c .before .before .before .before .args .work .now) (c .before .before .before .before .args .a)) (literalIn (c .before .before .before .before .args .work .now) (c .before .before .before .before .args .b)) (c .before .before .literal-value .result) (c .before .literal-value2 .result) (c .lookup-xor .result) (c .before .before .literal-value .ensures) (c .before .literal-value2 .ensures) (c .lookup-xor .ensures)
 

@@ -6,15 +6,12 @@ use borrow.Author.Needs.{needs}
 use Rattle.phasefold.proofs.foreign.file_numbers.Statement.{statement}
 use Rattle.phasefold.proofs.foreign.file_numbers.Tie as tie
 
--- src/foreign.rt:36:9
 number-of-requires : tie.Need-number-of-requires
 number-of-requires c κs = search needs
 
--- src/foreign.rt:37:9
 place-of-requires : tie.Need-place-of-requires
 place-of-requires c κs = search needs
 
--- src/foreign.rt:33:1
 returns : tie.Need-returns
 returns c = flat-by (refusalIn (c .before .before .args .refusal)) (c .before .number-of .result) (c .place-of .result) (c .before .number-of .ensures) (c .place-of .ensures)
 

@@ -6,15 +6,12 @@ use borrow.Author.Needs.{needs}
 use Rattle.phasefold.proofs.foreign.fold_numbers.Statement.{statement}
 use Rattle.phasefold.proofs.foreign.fold_numbers.Tie as tie
 
--- src/foreign.rt:163:9
 number-of-requires : tie.Need-number-of-requires
 number-of-requires c κs = search needs
 
--- src/foreign.rt:164:9
 place-of-requires : tie.Need-place-of-requires
 place-of-requires c κs = search needs
 
--- src/foreign.rt:160:1
 returns : tie.Need-returns
 returns c = flat-by (foldRefusalIn (c .before .before .args .refusal)) (c .before .number-of .result) (c .place-of .result) (c .before .number-of .ensures) (c .place-of .ensures)
 

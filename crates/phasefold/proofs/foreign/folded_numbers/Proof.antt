@@ -7,23 +7,18 @@ use borrow.Author.Needs.{needs}
 use Rattle.phasefold.proofs.foreign.folded_numbers.Statement.{statement}
 use Rattle.phasefold.proofs.foreign.folded_numbers.Tie as tie
 
--- src/foreign.rt:196:23
 enum-known-answer : tie.Need-enum-known-answer
 enum-known-answer c = search needs
 
--- src/foreign.rt:206:26
 enum-known-answer-2 : tie.Need-enum-known-answer-2
 enum-known-answer-2 c = search needs
 
--- src/foreign.rt:207:17
 fold-numbers-requires : tie.Need-fold-numbers-requires
 fold-numbers-requires c κs = search needs
 
--- src/foreign.rt:192:1
 returns : tie.Need-returns
 returns c = sym (ap foldedNumbers (c .before .answer .given .1))
 
--- src/foreign.rt:192:1
 returns-2 : tie.Need-returns-2
 returns-2 c = search fold-refused-flat
 

@@ -9,27 +9,21 @@ use borrow.Author.Needs.{needs}
 use Rattle.phasefold.proofs.foreign.pf_check.Statement.{statement}
 use Rattle.phasefold.proofs.foreign.pf_check.Tie as tie
 
--- src/foreign.rt:72:11
 check-requires : tie.Need-check-requires
 check-requires c κs = search needs
 
--- src/foreign.rt:73:33
 enum-told : tie.Need-enum-told
 enum-told c = search needs
 
--- src/foreign.rt:77:29
 enum-known-refusal : tie.Need-enum-known-refusal
 enum-known-refusal c = search needs
 
--- src/foreign.rt:77:41
 file-numbers-requires : tie.Need-file-numbers-requires
 file-numbers-requires c κs = search needs
 
--- src/foreign.rt:68:1
 returns : tie.Need-returns
 returns c = check-flat (c .before .before .before .before .args .file .now) (c .before .before .check .result) (c .before .before .check .ensures) (record { number = 0; place = 0 }) (sym (ap (λ (q : Acceptance). refusalNumbers (acceptRefusal q)) (c .enum-told .given .1)))
 
--- src/foreign.rt:68:1
 returns-2 : tie.Need-returns-2
 returns-2 c = check-flat (c .before .before .before .before .before .before .args .file .now) (c .before .before .before .before .check .result) (c .before .before .before .before .check .ensures) (c .file-numbers .result) (c .file-numbers .ensures ∙ sym (ap (λ (q : Acceptance). refusalNumbers (acceptRefusal q)) (c .before .before .refusal .given .1)))
 

@@ -5,31 +5,24 @@ use borrow.Author.Needs.{needs}
 use Rattle.phasefold.proofs.foreign.pf_count.Statement.{statement}
 use Rattle.phasefold.proofs.foreign.pf_count.Tie as tie
 
--- src/foreign.rt:105:11
 count-requires : tie.Need-count-requires
 count-requires c κs = search needs
 
--- src/foreign.rt:106:30
 enum-known-counts : tie.Need-enum-known-counts
 enum-known-counts c = search needs
 
--- src/foreign.rt:106:41
 counts-numbers-requires : tie.Need-counts-numbers-requires
 counts-numbers-requires c κs = counts-fit (c .before .before .before .before .before .args .file .now) (c .before .before .before .count .result) (c .before .before .before .count .ensures) (c .before .counts .given .0 .0) (c .before .counts .given .1)
 
--- src/foreign.rt:107:30
 enum-known-refusal : tie.Need-enum-known-refusal
 enum-known-refusal c = search needs
 
--- src/foreign.rt:108:17
 file-numbers-requires : tie.Need-file-numbers-requires
 file-numbers-requires c κs = search needs
 
--- src/foreign.rt:101:1
 returns : tie.Need-returns
 returns c = count-flat (c .before .before .before .before .before .before .args .file .now) (c .before .before .before .before .count .result) (c .before .before .before .before .count .ensures) (c .before .before .counts .given .0 .0) (c .before .before .counts .given .1) (c .counts-numbers .result) (c .counts-numbers .ensures)
 
--- src/foreign.rt:101:1
 returns-2 : tie.Need-returns-2
 returns-2 c = count-refused-flat (c .before .before .before .before .before .before .args .file .now) (c .before .before .before .before .count .result) (c .before .before .before .before .count .ensures) (c .before .before .refusal .given .0 .0) (c .file-numbers .result) (c .before .before .refusal .given .1) (c .file-numbers .ensures)
 

@@ -9,43 +9,33 @@ use borrow.Author.Needs.{needs}
 use Rattle.phasefold.proofs.foreign.pf_run.Statement.{statement}
 use Rattle.phasefold.proofs.foreign.pf_run.Tie as tie
 
--- src/foreign.rt:133:11
 run-requires : tie.Need-run-requires
 run-requires c κs = search needs
 
--- src/foreign.rt:134:28
 enum-told : tie.Need-enum-told
 enum-told c = search needs
 
--- src/foreign.rt:138:28
 enum-known-refusal : tie.Need-enum-known-refusal
 enum-known-refusal c = search needs
 
--- src/foreign.rt:138:40
 run-numbers-requires : tie.Need-run-numbers-requires
 run-numbers-requires c κs = search needs
 
--- src/foreign.rt:122:1
 same-length : tie.Need-same-length
 same-length c = search needs
 
--- src/foreign.rt:122:1
 same-length-2 : tie.Need-same-length-2
 same-length-2 c = search needs
 
--- src/foreign.rt:122:1
 returns : tie.Need-returns
 returns c = ran-flat (c .before .before .before .before .before .before .before .before .before .before .before .before .before .before .args .file .now) (c .before .before .before .before .before .before .before .before .before .before .before .before .before .before .args .steps) (c .before .before .before .before .before .before .before .before .before .before .before .before .before .before .args .choices .now) (c .before .before .before .before .before .before .before .before .before .before .before .before .before .before .args .inputs .now) (c .before .before .before .before .before .before .before .before .before .before .before .before .before .before .args .result .now) (c .before .before .before .before .before .before .run .last .1 .1 .1 .1 .0) (c .before .before .before .before .before .before .before .before .before .before .before .before .before .before .args .work .now) (c .before .before .before .before .before .before .run .last .1 .1 .1 .1 .1 .0) (c .before .before .before .before .before .before .run .result) (c .before .before .before .before .before .before .run .ensures) (record { number = 0; place = 0 }) (sym (ap (λ (q : RunAnswer). refusalNumbers (runAnswered q)) (c .enum-told .given .1)))
 
--- src/foreign.rt:122:1
 same-length-3 : tie.Need-same-length-3
 same-length-3 c = search needs
 
--- src/foreign.rt:122:1
 same-length-4 : tie.Need-same-length-4
 same-length-4 c = search needs
 
--- src/foreign.rt:122:1
 returns-2 : tie.Need-returns-2
 returns-2 c = ran-flat (c .before .before .before .before .before .before .before .before .before .before .before .before .before .before .before .before .args .file .now) (c .before .before .before .before .before .before .before .before .before .before .before .before .before .before .before .before .args .steps) (c .before .before .before .before .before .before .before .before .before .before .before .before .before .before .before .before .args .choices .now) (c .before .before .before .before .before .before .before .before .before .before .before .before .before .before .before .before .args .inputs .now) (c .before .before .before .before .before .before .before .before .before .before .before .before .before .before .before .before .args .result .now) (c .before .before .before .before .before .before .before .before .run .last .1 .1 .1 .1 .0) (c .before .before .before .before .before .before .before .before .before .before .before .before .before .before .before .before .args .work .now) (c .before .before .before .before .before .before .before .before .run .last .1 .1 .1 .1 .1 .0) (c .before .before .before .before .before .before .before .before .run .result) (c .before .before .before .before .before .before .before .before .run .ensures) (c .run-numbers .result) (c .run-numbers .ensures ∙ sym (ap (λ (q : RunAnswer). refusalNumbers (runAnswered q)) (c .before .before .refusal .given .1)))
 

@@ -8,47 +8,36 @@ use borrow.Author.Needs.{needs}
 use Rattle.phasefold.proofs.foreign.run_numbers.Statement.{statement}
 use Rattle.phasefold.proofs.foreign.run_numbers.Tie as tie
 
--- src/foreign.rt:48:26
 enum-known-refusal : tie.Need-enum-known-refusal
 enum-known-refusal c = search needs
 
--- src/foreign.rt:48:35
 file-numbers-requires : tie.Need-file-numbers-requires
 file-numbers-requires c κs = search needs
 
--- src/foreign.rt:49:30
 enum-told : tie.Need-enum-told
 enum-told c = search needs
 
--- src/foreign.rt:53:30
 enum-told-2 : tie.Need-enum-told-2
 enum-told-2 c = search needs
 
--- src/foreign.rt:57:30
 enum-told-3 : tie.Need-enum-told-3
 enum-told-3 c = search needs
 
--- src/foreign.rt:61:31
 enum-told-4 : tie.Need-enum-told-4
 enum-told-4 c = search needs
 
--- src/foreign.rt:44:1
 returns : tie.Need-returns
 returns c = c .file-numbers .ensures ∙ sym (ap (λ (q : RunRefusal). refusalNumbers (runRefusalIn q)) (c .before .before .refusal .given .1))
 
--- src/foreign.rt:44:1
 returns-2 : tie.Need-returns-2
 returns-2 c = sym (ap (λ (q : RunRefusal). refusalNumbers (runRefusalIn q)) (c .enum-told .given .1))
 
--- src/foreign.rt:44:1
 returns-3 : tie.Need-returns-3
 returns-3 c = sym (ap (λ (q : RunRefusal). refusalNumbers (runRefusalIn q)) (c .enum-told2 .given .1))
 
--- src/foreign.rt:44:1
 returns-4 : tie.Need-returns-4
 returns-4 c = sym (ap (λ (q : RunRefusal). refusalNumbers (runRefusalIn q)) (c .enum-told3 .given .1))
 
--- src/foreign.rt:44:1
 returns-5 : tie.Need-returns-5
 returns-5 c = sym (ap (λ (q : RunRefusal). refusalNumbers (runRefusalIn q)) (c .enum-told4 .given .1))
 
