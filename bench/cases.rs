@@ -35,7 +35,7 @@ pub enum Side {
 
 impl Case {
     /// A target of 0 is none.
-    fn new(name: &str, target: f64, task: Task, file: Vec<u8>) -> Case {
+    pub fn new(name: &str, target: f64, task: Task, file: Vec<u8>) -> Case {
         Case {
             name: name.to_string(),
             target: (target > 0.0).then_some(target),
@@ -74,14 +74,19 @@ fn random_file(nodes: usize, outputs: usize) -> Vec<u8> {
     encode(&random_netlist(&mut Random(4), shape))
 }
 
-fn run_case(nodes: usize, outputs: usize, steps: u32, target: f64) -> Case {
-    let file = random_file(nodes, outputs);
-    let counts = twin::count(&file).unwrap();
+/// A run with random values.
+pub fn run_task(file: &[u8], steps: u32) -> Task {
+    let counts = twin::count(file).unwrap();
     let mut random = Random(5);
     let choices = random.bits(counts.unknown as usize);
     let inputs = random.bits(steps as usize * counts.inputs as usize);
+    Task::Run { steps, choices, inputs }
+}
+
+fn run_case(nodes: usize, outputs: usize, steps: u32, target: f64) -> Case {
+    let file = random_file(nodes, outputs);
     let name = format!("Run, {} rows x {steps}", nodes + outputs);
-    Case::new(&name, target, Task::Run { steps, choices, inputs }, file)
+    Case::new(&name, target, run_task(&file, steps), file)
 }
 
 /// Binary counter from 0, its registers first.
@@ -138,6 +143,15 @@ fn longest_cone() -> Vec<Row> {
     rows
 }
 
+/// The wish that a design is measured with.
+pub fn wish_of(design: &str) -> u32 {
+    if design == "w8_fold" {
+        8
+    } else {
+        0
+    }
+}
+
 pub fn all_cases(designs: &[(String, Vec<u8>)]) -> Vec<Case> {
     let (whole, block) = (random_file(8000, 64), random_file(60, 3));
     let mut cases = vec![
@@ -149,11 +163,11 @@ pub fn all_cases(designs: &[(String, Vec<u8>)]) -> Vec<Case> {
         run_case(60, 3, 1, 0.0),
     ];
     for (name, file) in designs {
-        let (target, wish) = match name.as_str() {
-            "w256_lasso" => (1.3, 0),
-            "w8_fold" => (1.5, 8),
-            "c8" | "t_toggle1" => (0.0, 0),
-            _ => (1.5, 0),
+        let wish = wish_of(name);
+        let target = match name.as_str() {
+            "w256_lasso" => 1.3,
+            "c8" | "t_toggle1" => 0.0,
+            _ => 1.5,
         };
         let task = Task::Fold { wish };
         cases.push(Case::new(&format!("Fold, {name}, wish {wish}"), target, task, file.clone()));

@@ -2,13 +2,20 @@
 //!
 //!     main DESIGNS                            compare, then print the table of ratios;
 //!                                             exit status 1 if an answer differs
+//!     main DESIGNS --growth                   print the table of times by rows
+//!     main DESIGNS --aiger FILE OUT           write a netlist file as binary AIGER
+//!     main DESIGNS --abc PROGRAM FOLDER       fold the designs by ABC too; its files go to the folder
 //!     main DESIGNS --list                     print the names of the measured operations
 //!     main DESIGNS --one NUMBER library|twin  do one of them, for a count of instructions
 
+mod abc;
+mod aiger;
 mod cases;
 mod compare;
+mod growth;
 mod library;
 mod netlist;
+mod peer;
 mod twin;
 
 use cases::{Case, Side};
@@ -79,6 +86,19 @@ fn print_table(mut cases: Vec<Case>) {
     }
 }
 
+/// Each operation on netlists of one family; the last column is the library's time for each row.
+fn print_growth() {
+    let [library, twin, each] = ["library µs", "twin µs", "ns a row"];
+    println!("{:6} {:>5} {library:>11} {twin:>11} {:>6} {each:>9}", "", "rows", "ratio");
+    for (name, rows, mut case) in growth::all_cases() {
+        assert!(case.once(Side::Library) && case.once(Side::Twin), "{name}, {rows} rows: refused");
+        let (ours, twin) = best_times(&mut case);
+        let (ratio, each) = (ours / twin, 1000.0 * ours / rows as f64);
+        println!("{name:6} {rows:5} {ours:11.2} {twin:11.2} {ratio:6.2} {each:9.1}");
+    }
+    growth::print_folds();
+}
+
 fn main() {
     let words: Vec<String> = std::env::args().skip(1).collect();
     let designs = read_designs(&words[0]);
@@ -89,6 +109,15 @@ fn main() {
             let differences = compare::compare_all(&designs);
             print_table(cases);
             exit((differences > 0) as i32);
+        }
+        ["--growth"] => print_growth(),
+        ["--aiger", file, out] => {
+            let rows = netlist::decode(&std::fs::read(file).expect("a file"));
+            std::fs::write(out, aiger::write(&aiger::from_rows(&rows))).expect("a place for AIGER");
+        }
+        ["--abc", program, folder] => {
+            let right = abc::print_table(&designs, program, folder);
+            exit(!right as i32);
         }
         ["--list"] => cases.iter().for_each(|case| println!("{}", case.name)),
         ["--one", number, side] => {

@@ -1,4 +1,4 @@
-//! Makes netlist files: rows into blocks, seeded random netlists, damaged files.
+//! Makes netlist files: rows into blocks and back, seeded random netlists, damaged files.
 
 #[derive(Clone, Copy)]
 pub struct Row {
@@ -55,6 +55,14 @@ pub fn encode(rows: &[Row]) -> Vec<u8> {
         seal(block);
     }
     file
+}
+
+/// The rows of an accepted file.
+pub fn decode(file: &[u8]) -> Vec<Row> {
+    let field = |bytes: &[u8]| usize::from(u16::from_le_bytes([bytes[0], bytes[1]]));
+    let blocks = file.chunks_exact(512);
+    let rows = blocks.flat_map(|block| block[4..4 + 8 * usize::from(block[2])].chunks_exact(8));
+    rows.map(|r| row(r[0], r[1], field(&r[2..]), field(&r[4..]), field(&r[6..]))).collect()
 }
 
 /// SplitMix64.
@@ -125,7 +133,8 @@ fn push_counter(rows: &mut Vec<Row>, random: &mut Random, label: &mut usize) {
     }
 }
 
-fn random_gate(random: &mut Random, at: usize) -> Row {
+/// A gate over rows before `at`, half of its operands near.
+pub fn random_gate(random: &mut Random, at: usize) -> Row {
     let mut operand = || {
         let near = at.min(12);
         let node = if random.one_in(2) { random.below(at) } else { at - 1 - random.below(near) };
