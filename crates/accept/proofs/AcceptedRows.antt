@@ -1,6 +1,6 @@
 -- The rows of a file as the code reads them, and where they stand in a file that Check accepts.
 -- Assumes nothing.
-use Prim.Native.Nat.{ℕ, zero, suc, _+_, _-_, _<_, _≤_}
+use Prim.Native.Nat.{ℕ, zero, suc, _-_, _<_, _≤_}
 use mathlib.Core.Path.{_≡_, refl, sym, ap, _∙_}
 use mathlib.Core.Bool.{true}
 use mathlib.Core.List.{List}
@@ -78,10 +78,3 @@ module _ (f : List ℕ) (accepted : fileRefusal f ≡ noRefusal) where
 
   pub accepted-count : (1 ≤ length (netlistOf f)) × (length (netlistOf f) ≤ mostRows)
   accepted-count = (omega (arith, read-length f, accepted-blocks .last-some), omega (arith, read-length f, rows-of f accepted-blocks .few))
-
-  -- Row i stands in the file whole, and is that of its eight bytes.
-  pub accepted-inside : (i : ℕ) → i < length (netlistOf f) → rowOffset i + 8 ≤ length f
-  accepted-inside i h = omega (arith, read-length f, rows-of f accepted-blocks .inside)
-
-  pub accepted-row : (i : ℕ) → i < length (netlistOf f) → rowAt (netlistOf f) i ≡ decodeRow (readFields f i)
-  accepted-row i h = row-at f i (omega (arith, read-length f))

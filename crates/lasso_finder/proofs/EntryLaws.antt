@@ -59,9 +59,6 @@ entry-put w w₁ w₂ p label period word e h =
     let b : p + 4 ≡ suc (suc (p + 2)) = omega arith in
     h ∙ rw (a, b) (ap (λ (l : List ℕ). sets l (p + 2) (period ∷ word ∷ u32Bytes (ones word))) e) ∙ sets-join (u16Bytes label) (period ∷ word ∷ u32Bytes (ones word)) w p
 
-pub four-lengths : (w w₁ : List ℕ) (p label : ℕ) → w₁ ≡ sets w p (u16Bytes label) → length w₁ ≡ length w
-four-lengths w w₁ p label e = ap length e ∙ kept-sets p (p + 2) (u16Bytes label) w p (omega arith) (omega arith) .long
-
 -- It is read again.
 entry-read : (w : List ℕ) (e label period word : ℕ) → label < 2 ^ 16 → word < 2 ^ 8 → entryPlace e + 8 ≤ length w
     → entryIn (sets w (entryPlace e) (entryBytes label period word)) e ≡ record { label = label; period = period; word = word; ones = ones word }

@@ -4,13 +4,6 @@ use Rattle.lasso_finder.proofs.AnalysisLaws.{analysed-never, stem-is, c
 use borrow.Author.Needs.{needs}
 use Rattle.lasso_finder.proofs.analyse.Statement.{statement}
 use Rattle.lasso_finder.proofs.analyse.Tie as tie
-use Rattle.lasso_finder.proofs.analyse.Reads as reads
-use Rattle.lasso_finder.proofs.analyse.Lts as lts
-use Rattle.lasso_finder.proofs.entries.put_entries.Reads as put-entries-reads
-use Rattle.lasso_finder.proofs.known.find_known.Reads as find-known-reads
-use Rattle.lasso_finder.proofs.periods.find_periods.Reads as find-periods-reads
-use Rattle.lasso_finder.proofs.periods.phase_count.Reads as phase-count-reads
-use Rattle.lasso_finder.proofs.search.find_lasso.Reads as find-lasso-reads
 
 find-lasso-requires : tie.Need-find-lasso-requires
 find-lasso-requires c κs = ((c .before .before .before .pre .0), (c .before .before .before .pre .1 .1))

@@ -6,10 +6,6 @@ use Rattle.lasso_finder.proofs.EntryLaws.{entry-row, entry-none, put-as
 use borrow.Author.Needs.{needs}
 use Rattle.lasso_finder.proofs.entries.entry_row.Statement.{statement}
 use Rattle.lasso_finder.proofs.entries.entry_row.Tie as tie
-use Rattle.lasso_finder.proofs.entries.entry_row.Reads as reads
-use Rattle.lasso_finder.proofs.entries.entry_row.Lts as lts
-use Rattle.blockfile.proofs.read_row.Reads as read-row-reads
-use Rattle.lasso_finder.proofs.entries.put_entry.Reads as put-entry-reads
 
 mul-first : tie.Need-mul-first
 mul-first c = let s = row-small (entry-row (c .before .before .pre)) in omega arith

@@ -9,9 +9,6 @@ use Rattle.lasso_finder.proofs.EntryLaws.{entries-start, entry-asks, en
 use borrow.Author.Needs.{needs}
 use Rattle.lasso_finder.proofs.entries.put_entries.Statement.{statement}
 use Rattle.lasso_finder.proofs.entries.put_entries.Tie as tie
-use Rattle.lasso_finder.proofs.entries.put_entries.Reads as reads
-use Rattle.lasso_finder.proofs.entries.put_entries.Lts as lts
-use Rattle.lasso_finder.proofs.entries.entry_row.Reads as entry-row-reads
 
 abbrev Inv-rows : tie.InvT-rows
 Inv-rows file rows work₀ i₀ e₀ work i e = (i ≤ rows) × EntryPart (netlistOf file) work₀ work i e

@@ -8,10 +8,6 @@ use Rattle.lasso_finder.proofs.EntryLaws.{entry-put}
 use borrow.Author.Needs.{needs}
 use Rattle.lasso_finder.proofs.entries.put_entry.Statement.{statement}
 use Rattle.lasso_finder.proofs.entries.put_entry.Tie as tie
-use Rattle.lasso_finder.proofs.entries.put_entry.Reads as reads
-use Rattle.lasso_finder.proofs.entries.put_entry.Lts as lts
-use Rattle.memory.proofs.write_u16.Reads as write-u16-reads
-use Rattle.memory.proofs.write_u32.Reads as write-u32-reads
 
 mul-place : tie.Need-mul-place
 mul-place c = search needs

@@ -5,8 +5,6 @@ use Rattle.lasso_finder.proofs.KnownLaws.{bit-exact, bit-small}
 use borrow.Author.Needs.{needs}
 use Rattle.lasso_finder.proofs.known.bit_at.Statement.{statement}
 use Rattle.lasso_finder.proofs.known.bit_at.Tie as tie
-use Rattle.lasso_finder.proofs.known.bit_at.Reads as reads
-use Rattle.lasso_finder.proofs.known.bit_at.Lts as lts
 
 shl-result : tie.Need-shl-result
 shl-result c = search needs

@@ -8,10 +8,6 @@ use Rattle.lasso_finder.specs.Stages.{phaseValue}
 use Rattle.lasso_finder.proofs.KnownLaws.{word-none, word-more, word-small, sum-small, phase-less, phase-read}
 use Rattle.lasso_finder.proofs.known.clock_word.Statement.{statement}
 use Rattle.lasso_finder.proofs.known.clock_word.Tie as tie
-use Rattle.lasso_finder.proofs.known.clock_word.Reads as reads
-use Rattle.lasso_finder.proofs.known.clock_word.Lts as lts
-use Rattle.lasso_finder.proofs.known.bit_at.Reads as bit-at-reads
-use Rattle.lasso_finder.proofs.states.register_code.Reads as register-code-reads
 
 abbrev Inv-phases : tie.InvT-phases
 Inv-phases work j period phases word₀ k₀ word k = (k ≤ phases) × (word ≡ clockWord (phaseValue work j period) k)

@@ -12,9 +12,6 @@ use Rattle.lasso_finder.proofs.FrameLaws.{kept-none, kept-join}
 use borrow.Author.Needs.{needs}
 use Rattle.lasso_finder.proofs.known.find_known.Statement.{statement}
 use Rattle.lasso_finder.proofs.known.find_known.Tie as tie
-use Rattle.lasso_finder.proofs.known.find_known.Reads as reads
-use Rattle.lasso_finder.proofs.known.find_known.Lts as lts
-use Rattle.lasso_finder.proofs.known.known_row.Reads as known-row-reads
 
 abbrev Inv-rows : tie.InvT-rows
 Inv-rows file rows work₀ phases i₀ j₀ work i j = (i ≤ rows) × ((j ≡ registersBefore (netlistOf file) i) × (Kept (knownPlace 0) (knownPlace mostOriginalRows) work₀ work × KnownPart (netlistOf file) phases work i))

@@ -10,13 +10,6 @@ use Rattle.lasso_finder.proofs.KnownLaws.{byte-used, word-asks, known-u
 use borrow.Author.Needs.{needs}
 use Rattle.lasso_finder.proofs.known.known_row.Statement.{statement}
 use Rattle.lasso_finder.proofs.known.known_row.Tie as tie
-use Rattle.lasso_finder.proofs.known.known_row.Reads as reads
-use Rattle.lasso_finder.proofs.known.known_row.Lts as lts
-use Rattle.blockfile.proofs.read_row.Reads as read-row-reads
-use Rattle.lasso_finder.proofs.known.clock_word.Reads as clock-word-reads
-use Rattle.lasso_finder.proofs.known.put_known.Reads as put-known-reads
-use Rattle.lasso_finder.proofs.periods.is_used.Reads as is-used-reads
-use Rattle.lasso_finder.proofs.states.count_register.Reads as count-register-reads
 
 read-row-requires : tie.Need-read-row-requires
 read-row-requires c κs = read-asks (c .before .before .pre .0)

@@ -8,8 +8,6 @@ use Rattle.lasso_finder.specs.WorkMap.{knownPlace}
 use borrow.Author.Needs.{needs}
 use Rattle.lasso_finder.proofs.known.put_known.Statement.{statement}
 use Rattle.lasso_finder.proofs.known.put_known.Tie as tie
-use Rattle.lasso_finder.proofs.known.put_known.Reads as reads
-use Rattle.lasso_finder.proofs.known.put_known.Lts as lts
 
 mul-first : tie.Need-mul-first
 mul-first c = search needs

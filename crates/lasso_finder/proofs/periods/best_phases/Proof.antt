@@ -10,10 +10,6 @@ use Rattle.lasso_finder.proofs.CountLaws.{best-start, best-more}
 use borrow.Author.Needs.{needs}
 use Rattle.lasso_finder.proofs.periods.best_phases.Statement.{statement}
 use Rattle.lasso_finder.proofs.periods.best_phases.Tie as tie
-use Rattle.lasso_finder.proofs.periods.best_phases.Reads as reads
-use Rattle.lasso_finder.proofs.periods.best_phases.Lts as lts
-use Rattle.lasso_finder.proofs.periods.choose.Reads as choose-reads
-use Rattle.lasso_finder.proofs.periods.count_used.Reads as count-used-reads
 
 abbrev Inv-counts : tie.InvT-counts
 Inv-counts work rows best₀ most₀ tried₀ best most tried = ((1 ≤ tried) × (tried ≤ mostPhases)) × ((best ≡ bestPhaseCount (periodBytes work rows) tried) × (most ≡ usedCount (periodBytes work rows) best))

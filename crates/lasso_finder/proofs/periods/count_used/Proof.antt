@@ -12,11 +12,6 @@ use Rattle.lasso_finder.proofs.CountLaws.{count-more, one-at-most}
 use borrow.Author.Needs.{needs}
 use Rattle.lasso_finder.proofs.periods.count_used.Statement.{statement}
 use Rattle.lasso_finder.proofs.periods.count_used.Tie as tie
-use Rattle.lasso_finder.proofs.periods.count_used.Reads as reads
-use Rattle.lasso_finder.proofs.periods.count_used.Lts as lts
-use Rattle.lasso_finder.proofs.periods.choose.Reads as choose-reads
-use Rattle.lasso_finder.proofs.periods.is_used.Reads as is-used-reads
-use Rattle.memory.proofs.read_u8.Reads as read-u8-reads
 
 abbrev Inv-rows : tie.InvT-rows
 Inv-rows work rows n used₀ i₀ used i = (i ≤ rows) × ((used ≤ i) × (used ≡ usedCount (periodBytes work i) n))

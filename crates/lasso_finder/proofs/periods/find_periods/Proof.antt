@@ -12,9 +12,6 @@ use Rattle.lasso_finder.proofs.PeriodLaws.{lasso-short}
 use borrow.Author.Needs.{needs}
 use Rattle.lasso_finder.proofs.periods.find_periods.Statement.{statement}
 use Rattle.lasso_finder.proofs.periods.find_periods.Tie as tie
-use Rattle.lasso_finder.proofs.periods.find_periods.Reads as reads
-use Rattle.lasso_finder.proofs.periods.find_periods.Lts as lts
-use Rattle.lasso_finder.proofs.periods.period_row.Reads as period-row-reads
 
 abbrev Inv-rows : tie.InvT-rows
 Inv-rows file rows work₀ stem cycle m i₀ j₀ work i j = (i ≤ rows) × ((j ≡ registersBefore (netlistOf file) i) × (Kept (valuePlace 0) (valuePlace mostOriginalRows) work₀ work × PeriodPart (netlistOf file) work i))

@@ -9,9 +9,6 @@ use Rattle.lasso_finder.proofs.PeriodLaws.{holds-known, holds-unknown}
 use borrow.Author.Needs.{needs}
 use Rattle.lasso_finder.proofs.periods.holds_as.Statement.{statement}
 use Rattle.lasso_finder.proofs.periods.holds_as.Tie as tie
-use Rattle.lasso_finder.proofs.periods.holds_as.Reads as reads
-use Rattle.lasso_finder.proofs.periods.holds_as.Lts as lts
-use Rattle.lasso_finder.proofs.states.register_code.Reads as register-code-reads
 
 mul-register-code : tie.Need-mul-register-code
 mul-register-code c = search needs

@@ -6,9 +6,6 @@ use borrow.Author.Tests.{eq-eqb, ne-eqb}
 use borrow.Author.Needs.{needs}
 use Rattle.lasso_finder.proofs.periods.is_generator.Statement.{statement}
 use Rattle.lasso_finder.proofs.periods.is_generator.Tie as tie
-use Rattle.lasso_finder.proofs.periods.is_generator.Reads as reads
-use Rattle.lasso_finder.proofs.periods.is_generator.Lts as lts
-use Rattle.lasso_finder.proofs.periods.repeats.Reads as repeats-reads
 
 rem-if1 : tie.Need-rem-if1
 rem-if1 c = search needs

@@ -4,8 +4,6 @@ use Rattle.lasso_finder.proofs.CountLaws.{used-zero, used-some}
 use borrow.Author.Needs.{needs}
 use Rattle.lasso_finder.proofs.periods.is_used.Statement.{statement}
 use Rattle.lasso_finder.proofs.periods.is_used.Tie as tie
-use Rattle.lasso_finder.proofs.periods.is_used.Reads as reads
-use Rattle.lasso_finder.proofs.periods.is_used.Lts as lts
 
 returns : tie.Need-returns
 returns c = used-zero (c .before .args .n) (c .before .args .p) (c .if1 .taken)

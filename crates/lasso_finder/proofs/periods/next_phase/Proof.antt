@@ -6,8 +6,6 @@ use borrow.Author.Tests.{eq-eqb, ne-eqb}
 use borrow.Author.Needs.{needs}
 use Rattle.lasso_finder.proofs.periods.next_phase.Statement.{statement}
 use Rattle.lasso_finder.proofs.periods.next_phase.Tie as tie
-use Rattle.lasso_finder.proofs.periods.next_phase.Reads as reads
-use Rattle.lasso_finder.proofs.periods.next_phase.Lts as lts
 
 add-if1 : tie.Need-add-if1
 add-if1 c = search needs

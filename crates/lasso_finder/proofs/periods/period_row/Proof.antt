@@ -8,10 +8,6 @@ use Rattle.lasso_finder.proofs.PeriodLaws.{period-asks, period-more}
 use borrow.Author.Needs.{needs}
 use Rattle.lasso_finder.proofs.periods.period_row.Statement.{statement}
 use Rattle.lasso_finder.proofs.periods.period_row.Tie as tie
-use Rattle.lasso_finder.proofs.periods.period_row.Reads as reads
-use Rattle.lasso_finder.proofs.periods.period_row.Lts as lts
-use Rattle.blockfile.proofs.read_row.Reads as read-row-reads
-use Rattle.lasso_finder.proofs.periods.short_period.Reads as short-period-reads
 
 read-row-requires : tie.Need-read-row-requires
 read-row-requires c κs = read-asks (c .before .before .pre .0)

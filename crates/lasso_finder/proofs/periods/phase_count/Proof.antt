@@ -7,9 +7,6 @@ use Rattle.lasso_finder.proofs.CountLaws.{wish-none}
 use borrow.Author.Needs.{needs}
 use Rattle.lasso_finder.proofs.periods.phase_count.Statement.{statement}
 use Rattle.lasso_finder.proofs.periods.phase_count.Tie as tie
-use Rattle.lasso_finder.proofs.periods.phase_count.Reads as reads
-use Rattle.lasso_finder.proofs.periods.phase_count.Lts as lts
-use Rattle.lasso_finder.proofs.periods.best_phases.Reads as best-phases-reads
 
 best-phases-requires : tie.Need-best-phases-requires
 best-phases-requires c κs = search needs

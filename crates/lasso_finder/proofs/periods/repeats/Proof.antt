@@ -11,10 +11,6 @@ use Rattle.lasso_finder.proofs.WordLaws.{allBelow-more, allBelow-no}
 use Rattle.lasso_finder.proofs.PeriodLaws.{mod-next}
 use Rattle.lasso_finder.proofs.periods.repeats.Statement.{statement}
 use Rattle.lasso_finder.proofs.periods.repeats.Tie as tie
-use Rattle.lasso_finder.proofs.periods.repeats.Reads as reads
-use Rattle.lasso_finder.proofs.periods.repeats.Lts as lts
-use Rattle.lasso_finder.proofs.periods.holds_as.Reads as holds-as-reads
-use Rattle.lasso_finder.proofs.periods.next_phase.Reads as next-phase-reads
 
 abbrev Inv-states : tie.InvT-states
 Inv-states work m j p t₀ u₀ t u = (t ≤ m) × ((u ≡ t % p) × (repeatsIn work t j p ≡ true))

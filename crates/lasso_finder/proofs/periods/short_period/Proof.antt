@@ -10,9 +10,6 @@ use Rattle.lasso_finder.specs.Stages.{generatorIn}
 use Rattle.lasso_finder.proofs.PeriodLaws.{period-found, period-missing}
 use Rattle.lasso_finder.proofs.periods.short_period.Statement.{statement}
 use Rattle.lasso_finder.proofs.periods.short_period.Tie as tie
-use Rattle.lasso_finder.proofs.periods.short_period.Reads as reads
-use Rattle.lasso_finder.proofs.periods.short_period.Lts as lts
-use Rattle.lasso_finder.proofs.periods.is_generator.Reads as is-generator-reads
 
 abbrev Inv-lengths : tie.InvT-lengths
 Inv-lengths work m cycle j p₀ p = (1 ≤ p) × ((p ≤ suc mostPhases) × ((q : ℕ) → 1 ≤ q → q < p → generatorIn work m cycle j q ≡ false))

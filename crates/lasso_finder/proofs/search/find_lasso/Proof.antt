@@ -9,12 +9,6 @@ use Rattle.lasso_finder.specs.Stages.{LassoDone}
 use Rattle.lasso_finder.proofs.SearchLaws.{Unlike, Sought, unlike-more, start-part, sought-start, sought-never, sought-next, sought-found, same-asks, repeat-is}
 use Rattle.lasso_finder.proofs.search.find_lasso.Statement.{statement}
 use Rattle.lasso_finder.proofs.search.find_lasso.Tie as tie
-use Rattle.lasso_finder.proofs.search.find_lasso.Reads as reads
-use Rattle.lasso_finder.proofs.search.find_lasso.Lts as lts
-use Rattle.lasso_finder.proofs.search.same_state.Reads as same-state-reads
-use Rattle.lasso_finder.proofs.states.advance.Reads as advance-reads
-use Rattle.lasso_finder.proofs.states.start.Reads as start-reads
-use Rattle.lasso_finder.proofs.states.state_place.Reads as state-place-reads
 
 abbrev Inv-history : tie.InvT-history
 Inv-history file rows work registers words answer₀ m new k₀ answer k = (k ≤ m) × ((answer ≡ answer₀) × Unlike (netlistOf file) m k)

@@ -9,9 +9,6 @@ use Rattle.lasso_finder.specs.Stages.{sameWord}
 use Rattle.lasso_finder.proofs.WordLaws.{allBelow-more, allBelow-no, words-differ, words-agree}
 use Rattle.lasso_finder.proofs.search.same_state.Statement.{statement}
 use Rattle.lasso_finder.proofs.search.same_state.Tie as tie
-use Rattle.lasso_finder.proofs.search.same_state.Reads as reads
-use Rattle.lasso_finder.proofs.search.same_state.Lts as lts
-use Rattle.lasso_finder.proofs.search.word_at.Reads as word-at-reads
 
 abbrev Inv-words : tie.InvT-words
 Inv-words work a b words k₀ k = (k ≤ words) × (allBelow k (sameWord work a b) ≡ true)

@@ -5,10 +5,6 @@ use Rattle.lasso_finder.proofs.NextLaws.{evaluate-asks, pack-asks, adva
 use borrow.Author.Needs.{needs}
 use Rattle.lasso_finder.proofs.states.advance.Statement.{statement}
 use Rattle.lasso_finder.proofs.states.advance.Tie as tie
-use Rattle.lasso_finder.proofs.states.advance.Reads as reads
-use Rattle.lasso_finder.proofs.states.advance.Lts as lts
-use Rattle.lasso_finder.proofs.states.evaluate.Reads as evaluate-reads
-use Rattle.lasso_finder.proofs.states.pack_next.Reads as pack-next-reads
 
 sub-last : tie.Need-sub-last
 sub-last c = search needs

@@ -6,10 +6,6 @@ use Rattle.lasso_finder.proofs.StateLaws.{gate-of-two}
 use borrow.Author.Needs.{needs}
 use Rattle.lasso_finder.proofs.states.and_value.Statement.{statement}
 use Rattle.lasso_finder.proofs.states.and_value.Tie as tie
-use Rattle.lasso_finder.proofs.states.and_value.Reads as reads
-use Rattle.lasso_finder.proofs.states.and_value.Lts as lts
-use Rattle.lasso_finder.proofs.states.literal_value.Reads as literal-value-reads
-use Rattle.ternary.proofs.lookup_and.Reads as lookup-and-reads
 
 literal-value-requires : tie.Need-literal-value-requires
 literal-value-requires c κs = search needs

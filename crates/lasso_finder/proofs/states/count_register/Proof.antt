@@ -6,8 +6,6 @@ use borrow.Author.Tests.{eq-eqb, ne-eqb}
 use borrow.Author.Needs.{needs}
 use Rattle.lasso_finder.proofs.states.count_register.Statement.{statement}
 use Rattle.lasso_finder.proofs.states.count_register.Tie as tie
-use Rattle.lasso_finder.proofs.states.count_register.Reads as reads
-use Rattle.lasso_finder.proofs.states.count_register.Lts as lts
 
 add-result : tie.Need-add-result
 add-result c = search needs

@@ -12,10 +12,6 @@ use Rattle.lasso_finder.proofs.BlockLaws.{rows-small, StartsBlock, bloc
 use borrow.Author.Needs.{needs}
 use Rattle.lasso_finder.proofs.states.evaluate.Statement.{statement}
 use Rattle.lasso_finder.proofs.states.evaluate.Tie as tie
-use Rattle.lasso_finder.proofs.states.evaluate.Reads as reads
-use Rattle.lasso_finder.proofs.states.evaluate.Lts as lts
-use Rattle.lasso_finder.proofs.states.block_stop.Reads as block-stop-reads
-use Rattle.lasso_finder.proofs.states.evaluate_block.Reads as evaluate-block-reads
 
 abbrev Inv-each-block : tie.InvT-each-block
 Inv-each-block file rows work₀ t start₀ first₀ j₀ work start first j = (start ≤ rows) × (StartsBlock start rows first × ((j ≡ registersBefore (netlistOf file) start) × (ValuesKept work₀ work × Evaluated (netlistOf file) work t start)))

@@ -12,9 +12,6 @@ use Rattle.lasso_finder.proofs.BlockLaws.{block-row, place-small}
 use borrow.Author.Needs.{needs}
 use Rattle.lasso_finder.proofs.states.evaluate_block.Statement.{statement}
 use Rattle.lasso_finder.proofs.states.evaluate_block.Tie as tie
-use Rattle.lasso_finder.proofs.states.evaluate_block.Reads as reads
-use Rattle.lasso_finder.proofs.states.evaluate_block.Lts as lts
-use Rattle.lasso_finder.proofs.states.evaluate_row.Reads as evaluate-row-reads
 
 abbrev Inv-rows : tie.InvT-rows
 Inv-rows file rows start stop first before work₀ t i₀ place₀ j₀ work i place j = (start ≤ i) × ((i ≤ stop) × ((place ≡ first + 8 * (i - start)) × ((j ≡ registersBefore (netlistOf file) i) × (ValuesKept work₀ work × Evaluated (netlistOf file) work t i))))

@@ -7,11 +7,6 @@ use Rattle.lasso_finder.proofs.StepLaws.{place-early, row-small, read-a
 use borrow.Author.Needs.{needs}
 use Rattle.lasso_finder.proofs.states.evaluate_row.Statement.{statement}
 use Rattle.lasso_finder.proofs.states.evaluate_row.Tie as tie
-use Rattle.lasso_finder.proofs.states.evaluate_row.Reads as reads
-use Rattle.lasso_finder.proofs.states.evaluate_row.Lts as lts
-use Rattle.blockfile.proofs.read_at.Reads as read-at-reads
-use Rattle.lasso_finder.proofs.states.count_register.Reads as count-register-reads
-use Rattle.lasso_finder.proofs.states.row_value.Reads as row-value-reads
 
 read-at-requires : tie.Need-read-at-requires
 read-at-requires c κs = let h = read-asks (c .before .before .pre .0 .0) in let e = (c .before .before .pre .0 .1) in omega arith

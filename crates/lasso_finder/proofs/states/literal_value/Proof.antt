@@ -6,9 +6,6 @@ use Rattle.lasso_finder.proofs.StateLaws.{literal-by}
 use borrow.Author.Needs.{needs}
 use Rattle.lasso_finder.proofs.states.literal_value.Statement.{statement}
 use Rattle.lasso_finder.proofs.states.literal_value.Tie as tie
-use Rattle.lasso_finder.proofs.states.literal_value.Reads as reads
-use Rattle.lasso_finder.proofs.states.literal_value.Lts as lts
-use Rattle.ternary.proofs.lookup_xor.Reads as lookup-xor-reads
 
 add-place : tie.Need-add-place
 add-place c = search needs

@@ -6,10 +6,6 @@ use Rattle.lasso_finder.proofs.StateLaws.{gate-of-three}
 use borrow.Author.Needs.{needs}
 use Rattle.lasso_finder.proofs.states.mux_value.Statement.{statement}
 use Rattle.lasso_finder.proofs.states.mux_value.Tie as tie
-use Rattle.lasso_finder.proofs.states.mux_value.Reads as reads
-use Rattle.lasso_finder.proofs.states.mux_value.Lts as lts
-use Rattle.lasso_finder.proofs.states.literal_value.Reads as literal-value-reads
-use Rattle.ternary.proofs.lookup_mux.Reads as lookup-mux-reads
 
 literal-value-requires : tie.Need-literal-value-requires
 literal-value-requires c κs = search needs

@@ -10,12 +10,6 @@ use Rattle.lasso_finder.proofs.StepLaws.{StateKept}
 use Rattle.lasso_finder.proofs.NextLaws.{literal-asks, next-put-asks, next-packed}
 use Rattle.lasso_finder.proofs.states.pack_next.Statement.{statement}
 use Rattle.lasso_finder.proofs.states.pack_next.Tie as tie
-use Rattle.lasso_finder.proofs.states.pack_next.Reads as reads
-use Rattle.lasso_finder.proofs.states.pack_next.Lts as lts
-use Rattle.blockfile.proofs.field_at.Reads as field-at-reads
-use Rattle.lasso_finder.proofs.states.literal_value.Reads as literal-value-reads
-use Rattle.lasso_finder.proofs.states.put_code.Reads as put-code-reads
-use Rattle.lasso_finder.proofs.states.state_place.Reads as state-place-reads
 
 abbrev Inv-registers : tie.InvT-registers
 Inv-registers work₀ n m base j₀ work j = (j ≤ n) × (IsBytes work × (StateKept m work₀ work × Packed work (statePlace m) (shownCodes work₀ j)))

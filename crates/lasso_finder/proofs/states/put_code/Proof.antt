@@ -9,8 +9,6 @@ use Rattle.lasso_finder.proofs.StepLaws.{put-exact, put-fits}
 use borrow.Author.Needs.{needs}
 use Rattle.lasso_finder.proofs.states.put_code.Statement.{statement}
 use Rattle.lasso_finder.proofs.states.put_code.Tie as tie
-use Rattle.lasso_finder.proofs.states.put_code.Reads as reads
-use Rattle.lasso_finder.proofs.states.put_code.Lts as lts
 
 add-place : tie.Need-add-place
 add-place c = search needs

@@ -4,13 +4,6 @@ use Rattle.lasso_finder.proofs.StateLaws.{register-asks, and-asks, xor-
 use mathlib.Core.Path.{refl}
 use Rattle.lasso_finder.proofs.states.row_value.Statement.{statement}
 use Rattle.lasso_finder.proofs.states.row_value.Tie as tie
-use Rattle.lasso_finder.proofs.states.row_value.Reads as reads
-use Rattle.lasso_finder.proofs.states.row_value.Lts as lts
-use Rattle.lasso_finder.proofs.states.and_value.Reads as and-value-reads
-use Rattle.lasso_finder.proofs.states.literal_value.Reads as literal-value-reads
-use Rattle.lasso_finder.proofs.states.mux_value.Reads as mux-value-reads
-use Rattle.lasso_finder.proofs.states.register_code.Reads as register-code-reads
-use Rattle.lasso_finder.proofs.states.xor_value.Reads as xor-value-reads
 
 register-code-requires : tie.Need-register-code-requires
 register-code-requires c κs = register-asks (c .before .before .args .work .now) (c .before .before .args .row) (c .before .before .args .base) (c .before .before .args .j) (c .before .before .pre) (c .match .keys3)

@@ -12,9 +12,6 @@ use Rattle.lasso_finder.proofs.StepLaws.{StartKept}
 use borrow.Author.Needs.{needs}
 use Rattle.lasso_finder.proofs.states.start.Statement.{statement}
 use Rattle.lasso_finder.proofs.states.start.Tie as tie
-use Rattle.lasso_finder.proofs.states.start.Reads as reads
-use Rattle.lasso_finder.proofs.states.start.Lts as lts
-use Rattle.lasso_finder.proofs.states.start_row.Reads as start-row-reads
 
 abbrev Inv-rows : tie.InvT-rows
 Inv-rows file rows work₀ i₀ j₀ work i j = (i ≤ rows) × ((j ≡ registersBefore (netlistOf file) i) × (StartKept work₀ work × Started (netlistOf file) work i))

@@ -8,11 +8,6 @@ use Rattle.lasso_finder.proofs.StepLaws.{read-asks, number-small, regis
 use borrow.Author.Needs.{needs}
 use Rattle.lasso_finder.proofs.states.start_row.Statement.{statement}
 use Rattle.lasso_finder.proofs.states.start_row.Tie as tie
-use Rattle.lasso_finder.proofs.states.start_row.Reads as reads
-use Rattle.lasso_finder.proofs.states.start_row.Lts as lts
-use Rattle.blockfile.proofs.read_row.Reads as read-row-reads
-use Rattle.lasso_finder.proofs.states.list_next.Reads as list-next-reads
-use Rattle.lasso_finder.proofs.states.put_code.Reads as put-code-reads
 
 read-row-requires : tie.Need-read-row-requires
 read-row-requires c κs = read-asks (c .before .before .pre .0)
