@@ -33,9 +33,9 @@ use Rattle.fold_core.specs.declared.early.Asked.{Asked}
 use Rattle.fold_core.specs.declared.early.Asked.the-variants.{Passed, Stopped}
 use Rattle.fold_core.specs.declared.FoldRefusal.{FoldRefusal}
 use Rattle.fold_core.specs.declared.FoldRefusal.the-variants.{File, Rows, Registers, Phase, Wish, Memory, NoLasso}
-use Rattle.fold_core.specs.EarlyAnswers.{hasPhase, argumentQuestions, AnswersTo}
+use Rattle.fold_core.specs.EarlyAnswers.{hasPhase, AnswersTo}
 use Rattle.fold_core.specs.FoldAnswers.{foldRefusalIn}
-use Rattle.fold_core.specs.FoldParts.{earlyRefusal, Questioned}
+use Rattle.fold_core.specs.FoldParts.{argumentQuestions, earlyRefusal, Questioned}
 
 -- ---- the phase of a row, from its fields
 

@@ -33,8 +33,7 @@ use Rattle.lasso_finder.proofs.ReadyLaws.{ready-of}
 use Rattle.fold.specs.UnrollMap.{Original, Room}
 use Rattle.fold.proofs.StoredBytes.{join-cong}
 use Rattle.fold_core.specs.FoldAnswers.{numbersOf, entriesOf, resultOf}
-use Rattle.fold_core.specs.EarlyAnswers.{argumentQuestions}
-use Rattle.fold_core.specs.FoldParts.{earlyRefusal, FoldReady, foldingOf, FoldMade}
+use Rattle.fold_core.specs.FoldParts.{argumentQuestions, earlyRefusal, FoldReady, foldingOf, FoldMade}
 use Rattle.fold_core.specs.FoldStages.{EntriesKept, FoldWritten, NumbersFit, numbersFrom}
 use Rattle.fold_core.specs.declared.FoldNumbers.{FoldNumbers}
 use Rattle.fold_core.specs.declared.FoldRefusal.the-variants.{NoLasso}

@@ -21,15 +21,13 @@ use Rattle.fold_core.specs.declared.Folding.the-variants.{Done, Refused}
 
 -- ---- questions 1 to 15
 
+-- 14 and 15: the wish, and the lengths of what Fold is lent.
+abbrev pub argumentQuestions : ℕ → ℕ → ℕ → ℕ → List Refusal
+argumentQuestions wish result work clocks = question 14 (leb wish mostPhases) ∷ question 15 (foldMemoryRight result work clocks) ∷ []
+
 -- The first no of questions 1 to 15.
 unfoldable pub earlyRefusal : List ℕ → ℕ → ℕ → ℕ → ℕ → Refusal
-earlyRefusal file wish result work clocks =
-    firstRefusal
-    (fileRefusal file
-    ∷ originalRefusal (netlistOf file)
-    ∷ question 14 (leb wish mostPhases)
-    ∷ question 15 (foldMemoryRight result work clocks)
-    ∷ [])
+earlyRefusal file wish result work clocks = firstRefusal (fileRefusal file ∷ originalRefusal (netlistOf file) ∷ argumentQuestions wish result work clocks)
 
 abbrev pub askedRefusal : Asked → Refusal
 askedRefusal (Passed n) = noRefusal

@@ -9,8 +9,8 @@ ghost use Rattle.netlist.specs.Rows.{decodeRow, phaseOf};
 ghost use Rattle.netlist.specs.FileFormat.{rowOffset, readFields, netlistOf};
 ghost use Rattle.questions.specs.Questions.{originalRefusal};
 ghost use Rattle.blockfile.specs.Ready.{Ready};
-ghost use Rattle.fold_core.specs.EarlyAnswers.{hasPhase, argumentQuestions, AnswersTo};
-ghost use Rattle.fold_core.specs.FoldParts.{Questioned};
+ghost use Rattle.fold_core.specs.EarlyAnswers.{hasPhase, AnswersTo};
+ghost use Rattle.fold_core.specs.FoldParts.{argumentQuestions, Questioned};
 use crate::FoldRefusal;
 use accept::Acceptance;
 
