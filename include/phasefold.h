@@ -1,4 +1,4 @@
-/* phasefold: checks, counts, folds and runs netlist files.
+/* phasefold: checks, counts, shows, folds and runs netlist files.
  *
  * A slice is a pointer and its length, and the pointer is not null, even if the length is 0. All
  * memory is lent by the caller: nothing is allocated, and nothing is kept after the return. A part
@@ -24,6 +24,9 @@ typedef struct { uint32_t number, place; } pf_refusal;
 /* The nodes include the constant; `unknown` counts the registers that reset to X. */
 typedef struct { uint32_t number, place, nodes, inputs, registers, unknown, outputs; } pf_counts;
 
+/* A part of the caller's file, by its first byte and its size. */
+typedef struct { uint32_t number, place, offset, size; } pf_shown;
+
 /* Lasso, phase count, used generators, and the rows of the file and of the folded file. */
 typedef struct { uint32_t number, place, stem, cycle, phases, used, before, after; } pf_folded;
 
@@ -36,6 +39,10 @@ pf_refusal pf_check(const uint8_t *file, size_t file_len);
 
 /* How many rows of each sort a file has. Refusals 1 to 10. */
 pf_counts pf_count(const uint8_t *file, size_t file_len);
+
+/* Where the rows of a block stand in the file: `size` bytes, 504, from byte `offset` on. Refusals 1 to
+ * 10 and 21 (there is no such block). */
+pf_shown pf_show(const uint8_t *file, size_t file_len, uint32_t block);
 
 /* Folds a file into as many phases as `wish` says, 1 to 8, or into the best number, with 0.
  * `result` then starts with the folded file and is zero after it; the first `used` entries of

@@ -1,30 +1,35 @@
 -- The outcomes of Show, by Check's answer and the block's number.
 -- Assumes nothing.
 use Prim.Native.Nat.{ℕ, _+_, _*_, _<_, _≤_}
-use mathlib.Core.Path.{_≡_, refl, sym, ap, _∙_}
-use mathlib.Core.Bool.{cond}
+use mathlib.Core.Path.{_≡_, refl, sym, ap, _∙_, subst}
+use mathlib.Core.Bool.{Bool, true, false, cond}
 use mathlib.Core.List.{List, [], _∷_}
 use native.Mathlib.Omega.{arith}
 use lib.Dec.{eqb, ltb}
 use lib.ListN.{length, getD, take, drop, length-take, length-drop}
 use lib.Seq.{getD-take, getD-drop, ext-getD}
-use borrow.Author.Tests.{lt-ltb, le-ltb, ne-eqb}
+use borrow.Author.Tests.{lt-ltb, le-ltb, ltb-true, eqb-true, ne-eqb}
+use Rattle.netlist.specs.Limits.{mostBlocks}
 use Rattle.netlist.specs.FileFormat.{blockAt, rowPart, blockCount}
-use Rattle.questions.specs.Questions.{Refusal, noRefusal, firstRefusal, question, fileRefusal, showRefusal}
-use Rattle.questions.proofs.QuestionLaws.{list-next, number-none, list-stop}
+use Rattle.questions.specs.Questions.{Refusal, noRefusal, firstRefusal, question, namesEarlier, fileRefusal, showRefusal}
+use Rattle.questions.proofs.QuestionLaws.{list-none, list-next, number-none, list-stop, question-none}
+use Rattle.questions.proofs.AcceptedFiles.{FileRight, file-right}
 use Rattle.accept.specs.Refusals.{numberOf, placeOf, refusalIn, acceptRefusal}
 use Rattle.accept.specs.declared.FileRefusal.{FileRefusal}
 use Rattle.accept.specs.declared.Acceptance.{Acceptance}
 use Rattle.accept.specs.declared.Acceptance.the-variants.{Accepted, Refused}
 use Rattle.accept.proofs.RefusalLaws.{number-positive, accepted-none, refused-is}
 use Rattle.phasefold.specs.Outcomes.{Shown}
+use Rattle.phasefold.specs.ForeignAnswers.{ShownFlat}
 
 -- The row part as one part of the file.
+part-long : (file : List ℕ) (B : ℕ) → 512 * B + 512 ≤ length file → length (rowPart file B) ≡ 504
+part-long file B h = simp (length-take, length-drop) (omega arith)
+
 part-is : (file : List ℕ) (B n : ℕ) → n ≡ 504 → 512 * B + 512 ≤ length file → take n (drop (512 * B + 4) file) ≡ rowPart file B
 part-is file B n e h =
     let l : length (take n (drop (512 * B + 4) file)) ≡ 504 = simp (length-take, length-drop) (omega arith) in
-    let r : length (rowPart file B) ≡ 504 = simp (length-take, length-drop) (omega arith) in
-    ext-getD 0 (take n (drop (512 * B + 4) file)) (rowPart file B) (l ∙ sym r) (λ i b.
+    ext-getD 0 (take n (drop (512 * B + 4) file)) (rowPart file B) (l ∙ sym (part-long file B h)) (λ i b.
     let p : 512 * B + 4 + i ≡ 512 * B + (4 + i) = omega arith in
     getD-take n (drop (512 * B + 4) file) i 0 (omega arith) ∙ getD-drop (512 * B + 4) file i 0 ∙ ap (λ (x : ℕ). getD file x 0) p
     ∙ sym (getD-take 504 (drop 4 (blockAt file B)) i 0 (omega arith) ∙ getD-drop 4 (blockAt file B) i 0 ∙ getD-take 512 (drop (512 * B) file) (4 + i) 0 (omega arith) ∙ getD-drop (512 * B) file (4 + i) 0))
@@ -52,3 +57,52 @@ module _ (file : List ℕ) (B : ℕ) where
         let q : showRefusal file B ≡ refusalIn r =
         list-stop (fileRefusal file) (question 21 (ltb B (blockCount file)) ∷ []) (omega (arith, number-positive r, ap (λ (x : Refusal). x .number) (refused-is file a checked r e))) ∙ sym (refused-is file a checked r e) in
         rw (en, ep) (shown-by (refusalIn r) [] q (rw (ne-eqb (numberOf r) 0 (λ z. omega (arith, number-positive r, z)))))
+
+-- ---- the part by its first byte and its size
+
+module _ (file : List ℕ) (B : ℕ) (part : List ℕ) (n p : ℕ) (S : Shown file B part n p) where
+  passed-all : n ≡ 0 → (fileRefusal file .number ≡ 0) × (B < blockCount file)
+  unfolding showRefusal
+  passed-all e =
+      let asked : List Refusal = question 21 (ltb B (blockCount file)) ∷ [] in
+      let q = list-none (fileRefusal file) asked (sym (S .number-is) ∙ e) in
+      (q .0, ltb-true B (blockCount file) (question-none 20 (ltb B (blockCount file)) (list-none (question 21 (ltb B (blockCount file))) [] (q .1) .0)))
+
+  pub shown-few : n ≡ 0 → B < mostBlocks
+  shown-few e =
+      let q = passed-all e in
+      omega (arith, q .1, file-right namesEarlier file (q .0) .size .few-blocks)
+
+  part-by : (b : Bool) → eqb n 0 ≡ b → part ≡ cond b (rowPart file B) []
+  part-by b e = S .shown ∙ ap (λ (x : ℕ). cond (eqb x 0) (rowPart file B) []) (sym (S .number-is)) ∙ ap (λ (x : Bool). cond x (rowPart file B) []) e
+
+  room : eqb n 0 ≡ true → 512 * B + 512 ≤ length file
+  room e = omega (arith, passed-all (eqb-true n 0 e) .1)
+
+  pub size-is : length part ≡ cond (eqb n 0) 504 0
+  size-is = go (eqb n 0) refl
+    where
+      go : (b : Bool) → eqb n 0 ≡ b → length part ≡ cond b 504 0
+      go true e = ap length (part-by true e) ∙ part-long file B (room e)
+      go false e = ap length (part-by false e)
+
+  pub size-small : length part ≤ 504
+  size-small = go (eqb n 0) size-is
+    where
+      go : (b : Bool) → length part ≡ cond b 504 0 → length part ≤ 504
+      go true e = omega arith
+      go false e = omega arith
+
+  part-again : (o : ℕ) → o ≡ cond (eqb n 0) (512 * B + 4) 0 → take (length part) (drop o file) ≡ part
+  part-again o e = go (eqb n 0) refl (e)
+    where
+      go : (b : Bool) → eqb n 0 ≡ b → o ≡ cond b (512 * B + 4) 0 → take (length part) (drop o file) ≡ part
+      go true h k = rw k (part-is file B (length part) (ap length (part-by true h) ∙ part-long file B (room h)) (room h) ∙ sym (part-by true h))
+      go false h k = rw (part-by false h) refl
+
+  pub shown-flat : (o : ℕ) → o ≡ cond (eqb n 0) (512 * B + 4) 0 → ShownFlat file B (record { number = n; place = p; offset = o; size = length part })
+  shown-flat o e = record {
+    shown = subst (λ (x : List ℕ). Shown file B x n p) (sym (part-again o e)) S;
+    offset-is = e;
+    size-is = size-is;
+  }

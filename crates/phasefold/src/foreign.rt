@@ -1,12 +1,15 @@
 // The operations for callers in C: a slice is a pointer and a length, an answer a struct of numbers with the refusal's number and place first, both 0 on success.
 ghost use mathlib.Core.Path.{_≡_};
-ghost use Rattle.netlist.specs.Limits.{mostRows};
+ghost use mathlib.Core.Bool.{cond};
+ghost use Prim.Native.Nat.{_+_, _*_, _<_};
+ghost use lib.Dec.{eqb};
+ghost use Rattle.netlist.specs.Limits.{mostBlocks, mostRows};
 ghost use Rattle.questions.specs.Questions.{fileRefusal};
 ghost use Rattle.blockfile.specs.CountCode.{countsIn, EachAtMost};
 ghost use Rattle.run_core.specs.RunAnswers.{runRefusalIn};
 ghost use Rattle.accept.specs.Refusals.{refusalIn};
 ghost use Rattle.fold_core.specs.FoldAnswers.{foldRefusalIn};
-ghost use Rattle.phasefold.specs.ForeignAnswers.{refusalNumbers, acceptedCounts, countNumbers, RanFlat};
+ghost use Rattle.phasefold.specs.ForeignAnswers.{refusalNumbers, acceptedCounts, countNumbers, ShownFlat, RanFlat};
 ghost use Rattle.phasefold.specs.ForeignFold.{foldedNumbers, FoldedFlat};
 use super::CountAnswer;
 use accept::Acceptance;
@@ -35,39 +38,31 @@ pub struct PfCounts {
     pub outputs: u32,
 }
 
-fn file_numbers(refusal: FileRefusal) -> PfRefusal
-    ensures { λ r. ⌜ r ≡ refusalNumbers (refusalIn refusal) ⌝ }
+fn told(number: u32, place: u32) -> PfRefusal
+    ensures { λ r. ⌜ r ≡ record { number = number; place = place } ⌝ }
 {
-    let number = accept::number_of(refusal);
-    let place = accept::place_of(refusal);
     PfRefusal {
         number: number,
         place: place,
     }
 }
 
+fn file_numbers(refusal: FileRefusal) -> PfRefusal
+    ensures { λ r. ⌜ r ≡ refusalNumbers (refusalIn refusal) ⌝ }
+{
+    told(accept::number_of(refusal), accept::place_of(refusal))
+}
+
 fn run_numbers(refusal: RunRefusal) -> PfRefusal
     ensures { λ r. ⌜ r ≡ refusalNumbers (runRefusalIn refusal) ⌝ }
 {
-    match refusal {
-        RunRefusal::File(file) => file_numbers(file),
-        RunRefusal::Steps => PfRefusal {
-            number: 17,
-            place: 0,
-        },
-        RunRefusal::Lists => PfRefusal {
-            number: 18,
-            place: 0,
-        },
-        RunRefusal::Value => PfRefusal {
-            number: 19,
-            place: 0,
-        },
-        RunRefusal::Memory => PfRefusal {
-            number: 20,
-            place: 0,
-        },
-    }
+    told(run_core::number_of(refusal), run_core::place_of(refusal))
+}
+
+fn fold_numbers(refusal: FoldRefusal) -> PfRefusal
+    ensures { λ r. ⌜ r ≡ refusalNumbers (foldRefusalIn refusal) ⌝ }
+{
+    told(fold_core::number_of(refusal), fold_core::place_of(refusal))
 }
 
 #[no_mangle]
@@ -75,10 +70,7 @@ pub extern "C" fn pf_check(file: &[u8]) -> PfRefusal
     ensures { λ r. ⌜ r ≡ refusalNumbers (fileRefusal (now (file .entry))) ⌝ }
 {
     match super::check(file) {
-        Acceptance::Accepted => PfRefusal {
-            number: 0,
-            place: 0,
-        },
+        Acceptance::Accepted => told(0, 0),
         Acceptance::Refused(refusal) => file_numbers(refusal),
     }
 }
@@ -110,10 +102,10 @@ pub extern "C" fn pf_count(file: &[u8]) -> PfCounts
     match super::count(file) {
         CountAnswer::Counted(counts) => counts_numbers(counts),
         CountAnswer::Refused(refusal) => {
-            let told = file_numbers(refusal);
+            let cause = file_numbers(refusal);
             PfCounts {
-                number: told.number,
-                place: told.place,
+                number: cause.number,
+                place: cause.place,
                 nodes: 0,
                 inputs: 0,
                 registers: 0,
@@ -121,6 +113,39 @@ pub extern "C" fn pf_count(file: &[u8]) -> PfCounts
                 outputs: 0,
             }
         }
+    }
+}
+
+// Where the part that Show shows starts in the caller's file, and how many bytes it has; both are 0 where Show refuses.
+#[repr(C)]
+pub struct PfShown {
+    pub number: u32,
+    pub place: u32,
+    pub offset: u32,
+    pub size: u32,
+}
+
+fn part_offset(number: u32, block: u32) -> u32
+    requires { ⌜ (number ≡ 0 → block < mostBlocks) ⌝ }
+    ensures { λ r. ⌜ r ≡ cond (eqb number 0) (512 * block + 4) 0 ⌝ }
+{
+    if number == 0 { 512 * block + 4 } else { 0 }
+}
+
+#[no_mangle]
+pub extern "C" fn pf_show(file: &[u8], block: u32) -> PfShown
+    ensures { λ r. ⌜ ShownFlat (now (file .entry)) block r ⌝ }
+{
+    let mut number = 0;
+    let mut place = 0;
+    let part = super::show(file, block, &mut number, &mut place);
+    let size = part.len() as u32;
+    let offset = part_offset(number, block);
+    PfShown {
+        number: number,
+        place: place,
+        offset: offset,
+        size: size,
     }
 }
 
@@ -136,10 +161,7 @@ pub extern "C" fn pf_run(
     ensures { λ r. ⌜ RanFlat (now (file .entry)) steps (now (choices .entry)) (now (inputs .entry)) (now (result .entry)) (now (result .exit)) (now (work .entry)) (now (work .exit)) r ⌝ }
 {
     match super::run(file, steps, choices, inputs, result, work) {
-        RunAnswer::Done => PfRefusal {
-            number: 0,
-            place: 0,
-        },
+        RunAnswer::Done => told(0, 0),
         RunAnswer::Refused(refusal) => run_numbers(refusal),
     }
 }
@@ -155,17 +177,6 @@ pub struct PfFolded {
     pub used: u32,
     pub before: u32,
     pub after: u32,
-}
-
-fn fold_numbers(refusal: FoldRefusal) -> PfRefusal
-    ensures { λ r. ⌜ r ≡ refusalNumbers (foldRefusalIn refusal) ⌝ }
-{
-    let number = fold_core::number_of(refusal);
-    let place = fold_core::place_of(refusal);
-    PfRefusal {
-        number: number,
-        place: place,
-    }
 }
 
 fn folded_numbers(answer: Folding) -> PfFolded

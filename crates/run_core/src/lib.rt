@@ -6,6 +6,7 @@ ghost use Rattle.netlist.specs.Limits.{mostRows, mostSteps};
 ghost use Rattle.netlist.specs.Rows.{Row};
 ghost use Rattle.questions.specs.Questions.{countsOf, valueListsRight, allBinary, runMemoryRight};
 ghost use Rattle.blockfile.specs.CountCode.{countsIn, EachAtMost};
+ghost use Rattle.run_core.specs.RunAnswers.{runRefusalIn};
 ghost use Rattle.run_core.specs.RunPlans.{StepsPlanned, RunPlanned};
 ghost use Rattle.run_core.specs.Ran.{Ran};
 use accept::Acceptance;
@@ -20,6 +21,31 @@ pub enum RunRefusal {
     Lists,
     Value,
     Memory,
+}
+
+// The paper's number of a refusal, and its place.
+pub fn number_of(refusal: RunRefusal) -> u32
+    ensures { λ r. ⌜ r ≡ runRefusalIn refusal .number ⌝ }
+{
+    match refusal {
+        RunRefusal::File(file) => accept::number_of(file),
+        RunRefusal::Steps => 17,
+        RunRefusal::Lists => 18,
+        RunRefusal::Value => 19,
+        RunRefusal::Memory => 20,
+    }
+}
+
+pub fn place_of(refusal: RunRefusal) -> u32
+    ensures { λ r. ⌜ r ≡ runRefusalIn refusal .place ⌝ }
+{
+    match refusal {
+        RunRefusal::File(file) => accept::place_of(file),
+        RunRefusal::Steps => 0,
+        RunRefusal::Lists => 0,
+        RunRefusal::Value => 0,
+        RunRefusal::Memory => 0,
+    }
 }
 
 pub enum RunAnswer {

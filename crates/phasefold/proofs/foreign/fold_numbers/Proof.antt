@@ -1,5 +1,6 @@
 -- `phasefold::foreign::fold_numbers` gives Fold's refusal as numbers.
 -- Assumes nothing.
+use mathlib.Core.Path.{_∙_}
 use Rattle.fold_core.specs.FoldAnswers.{foldRefusalIn}
 use Rattle.phasefold.proofs.ForeignLaws.{flat-by}
 use borrow.Author.Needs.{needs}
@@ -12,8 +13,11 @@ number-of-requires c κs = search needs
 place-of-requires : tie.Need-place-of-requires
 place-of-requires c κs = search needs
 
+told-requires : tie.Need-told-requires
+told-requires c κs = search needs
+
 returns : tie.Need-returns
-returns c = flat-by (foldRefusalIn (c .before .before .args .refusal)) (c .before .number-of .result) (c .place-of .result) (c .before .number-of .ensures) (c .place-of .ensures)
+returns c = c .told .ensures ∙ flat-by (foldRefusalIn (c .before .before .before .args .refusal)) (c .before .before .number-of .result) (c .before .place-of .result) (c .before .before .number-of .ensures) (c .before .place-of .ensures)
 
 pub fold-numbers-spec : {M : Type 1} → statement M
-fold-numbers-spec = tie.close (tie.spec number-of-requires place-of-requires returns)
+fold-numbers-spec = tie.close (tie.spec number-of-requires place-of-requires told-requires returns)

@@ -15,6 +15,9 @@ check-requires c κs = search needs
 enum-told : tie.Need-enum-told
 enum-told c = search needs
 
+told-requires : tie.Need-told-requires
+told-requires c κs = search needs
+
 enum-known-refusal : tie.Need-enum-known-refusal
 enum-known-refusal c = search needs
 
@@ -22,7 +25,7 @@ file-numbers-requires : tie.Need-file-numbers-requires
 file-numbers-requires c κs = search needs
 
 returns : tie.Need-returns
-returns c = check-flat (c .before .before .before .before .args .file .now) (c .before .before .check .result) (c .before .before .check .ensures) (record { number = 0; place = 0 }) (sym (ap (λ (q : Acceptance). refusalNumbers (acceptRefusal q)) (c .enum-told .given .1)))
+returns c = check-flat (c .before .before .before .before .before .args .file .now) (c .before .before .before .check .result) (c .before .before .before .check .ensures) (c .told .result) (c .told .ensures ∙ sym (ap (λ (q : Acceptance). refusalNumbers (acceptRefusal q)) (c .before .enum-told .given .1)))
 
 returns-2 : tie.Need-returns-2
 returns-2 c = check-flat (c .before .before .before .before .before .before .args .file .now) (c .before .before .before .before .check .result) (c .before .before .before .before .check .ensures) (c .file-numbers .result) (c .file-numbers .ensures ∙ sym (ap (λ (q : Acceptance). refusalNumbers (acceptRefusal q)) (c .before .before .refusal .given .1)))
@@ -30,4 +33,11 @@ returns-2 c = check-flat (c .before .before .before .before .before .before .arg
 pub pf-check-spec : {M : Type 1} → statement M
 pf-check-spec =
     tie.close
-    (tie.spec check-requires enum-told enum-known-refusal file-numbers-requires returns returns-2)
+    (tie.spec
+    check-requires
+    enum-told
+    told-requires
+    enum-known-refusal
+    file-numbers-requires
+    returns
+    returns-2)

@@ -15,6 +15,9 @@ run-requires c κs = search needs
 enum-told : tie.Need-enum-told
 enum-told c = search needs
 
+told-requires : tie.Need-told-requires
+told-requires c κs = search needs
+
 enum-known-refusal : tie.Need-enum-known-refusal
 enum-known-refusal c = search needs
 
@@ -28,7 +31,7 @@ same-length-2 : tie.Need-same-length-2
 same-length-2 c = search needs
 
 returns : tie.Need-returns
-returns c = ran-flat (c .before .before .before .before .before .before .before .before .before .before .before .before .before .before .args .file .now) (c .before .before .before .before .before .before .before .before .before .before .before .before .before .before .args .steps) (c .before .before .before .before .before .before .before .before .before .before .before .before .before .before .args .choices .now) (c .before .before .before .before .before .before .before .before .before .before .before .before .before .before .args .inputs .now) (c .before .before .before .before .before .before .before .before .before .before .before .before .before .before .args .result .now) (c .before .before .before .before .before .before .run .last .1 .1 .1 .1 .0) (c .before .before .before .before .before .before .before .before .before .before .before .before .before .before .args .work .now) (c .before .before .before .before .before .before .run .last .1 .1 .1 .1 .1 .0) (c .before .before .before .before .before .before .run .result) (c .before .before .before .before .before .before .run .ensures) (record { number = 0; place = 0 }) (sym (ap (λ (q : RunAnswer). refusalNumbers (runAnswered q)) (c .enum-told .given .1)))
+returns c = ran-flat (c .before .before .before .before .before .before .before .before .before .before .before .before .before .before .before .args .file .now) (c .before .before .before .before .before .before .before .before .before .before .before .before .before .before .before .args .steps) (c .before .before .before .before .before .before .before .before .before .before .before .before .before .before .before .args .choices .now) (c .before .before .before .before .before .before .before .before .before .before .before .before .before .before .before .args .inputs .now) (c .before .before .before .before .before .before .before .before .before .before .before .before .before .before .before .args .result .now) (c .before .before .before .before .before .before .before .run .last .1 .1 .1 .1 .0) (c .before .before .before .before .before .before .before .before .before .before .before .before .before .before .before .args .work .now) (c .before .before .before .before .before .before .before .run .last .1 .1 .1 .1 .1 .0) (c .before .before .before .before .before .before .before .run .result) (c .before .before .before .before .before .before .before .run .ensures) (c .told .result) (c .told .ensures ∙ sym (ap (λ (q : RunAnswer). refusalNumbers (runAnswered q)) (c .before .enum-told .given .1)))
 
 same-length-3 : tie.Need-same-length-3
 same-length-3 c = search needs
@@ -45,6 +48,7 @@ pf-run-spec =
     (tie.spec
     run-requires
     enum-told
+    told-requires
     enum-known-refusal
     run-numbers-requires
     same-length

@@ -1,58 +1,23 @@
 -- `phasefold::foreign::run_numbers` gives Run's refusal as numbers.
 -- Assumes nothing.
-use mathlib.Core.Path.{sym, ap, _∙_}
+use mathlib.Core.Path.{_∙_}
 use Rattle.run_core.specs.RunAnswers.{runRefusalIn}
-use Rattle.run_core.specs.declared.RunRefusal.{RunRefusal}
-use Rattle.phasefold.specs.ForeignAnswers.{refusalNumbers}
+use Rattle.phasefold.proofs.ForeignLaws.{flat-by}
 use borrow.Author.Needs.{needs}
 use Rattle.phasefold.proofs.foreign.run_numbers.Statement.{statement}
 use Rattle.phasefold.proofs.foreign.run_numbers.Tie as tie
 
-enum-known-refusal : tie.Need-enum-known-refusal
-enum-known-refusal c = search needs
+number-of-requires : tie.Need-number-of-requires
+number-of-requires c κs = search needs
 
-file-numbers-requires : tie.Need-file-numbers-requires
-file-numbers-requires c κs = search needs
+place-of-requires : tie.Need-place-of-requires
+place-of-requires c κs = search needs
 
-enum-told : tie.Need-enum-told
-enum-told c = search needs
-
-enum-told-2 : tie.Need-enum-told-2
-enum-told-2 c = search needs
-
-enum-told-3 : tie.Need-enum-told-3
-enum-told-3 c = search needs
-
-enum-told-4 : tie.Need-enum-told-4
-enum-told-4 c = search needs
+told-requires : tie.Need-told-requires
+told-requires c κs = search needs
 
 returns : tie.Need-returns
-returns c = c .file-numbers .ensures ∙ sym (ap (λ (q : RunRefusal). refusalNumbers (runRefusalIn q)) (c .before .before .refusal .given .1))
-
-returns-2 : tie.Need-returns-2
-returns-2 c = sym (ap (λ (q : RunRefusal). refusalNumbers (runRefusalIn q)) (c .enum-told .given .1))
-
-returns-3 : tie.Need-returns-3
-returns-3 c = sym (ap (λ (q : RunRefusal). refusalNumbers (runRefusalIn q)) (c .enum-told2 .given .1))
-
-returns-4 : tie.Need-returns-4
-returns-4 c = sym (ap (λ (q : RunRefusal). refusalNumbers (runRefusalIn q)) (c .enum-told3 .given .1))
-
-returns-5 : tie.Need-returns-5
-returns-5 c = sym (ap (λ (q : RunRefusal). refusalNumbers (runRefusalIn q)) (c .enum-told4 .given .1))
+returns c = c .told .ensures ∙ flat-by (runRefusalIn (c .before .before .before .args .refusal)) (c .before .before .number-of .result) (c .before .place-of .result) (c .before .before .number-of .ensures) (c .before .place-of .ensures)
 
 pub run-numbers-spec : {M : Type 1} → statement M
-run-numbers-spec =
-    tie.close
-    (tie.spec
-    enum-known-refusal
-    file-numbers-requires
-    enum-told
-    enum-told-2
-    enum-told-3
-    enum-told-4
-    returns
-    returns-2
-    returns-3
-    returns-4
-    returns-5)
+run-numbers-spec = tie.close (tie.spec number-of-requires place-of-requires told-requires returns)
