@@ -10,6 +10,7 @@ use crate::{library, twin};
 pub enum Task {
     Check,
     Count,
+    Show { block: u32 },
     Run { steps: u32, choices: Vec<u8>, inputs: Vec<u8> },
     Fold { wish: u32 },
 }
@@ -57,6 +58,8 @@ impl Case {
             Task::Check => twin::check(file).is_ok(),
             Task::Count if ours => library::count(file).is_ok(),
             Task::Count => twin::count(file).is_ok(),
+            Task::Show { block } if ours => library::show(file, *block).is_ok(),
+            Task::Show { block } => twin::show(file, *block).is_ok(),
             Task::Run { steps, choices, inputs } if ours => {
                 library::run(file, *steps, choices, inputs, result, &mut work[..16_384]).is_ok()
             }
@@ -157,8 +160,10 @@ pub fn all_cases(designs: &[(String, Vec<u8>)]) -> Vec<Case> {
     let mut cases = vec![
         Case::new("Check, 8064 rows", 1.5, Task::Check, whole.clone()),
         Case::new("Check, 63 rows", 3.0, Task::Check, block.clone()),
-        Case::new("Count, 8064 rows", 0.0, Task::Count, whole),
-        Case::new("Count, 63 rows", 0.0, Task::Count, block),
+        Case::new("Count, 8064 rows", 0.0, Task::Count, whole.clone()),
+        Case::new("Count, 63 rows", 0.0, Task::Count, block.clone()),
+        Case::new("Show, 8064 rows", 0.0, Task::Show { block: 127 }, whole),
+        Case::new("Show, 63 rows", 0.0, Task::Show { block: 0 }, block),
         run_case(1000, 8, 4096, 1.2),
         run_case(60, 3, 1, 0.0),
     ];

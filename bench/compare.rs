@@ -62,14 +62,21 @@ fn edge_files(random: &mut Random) -> [Vec<u8>; 4] {
     [vec![], vec![0; 511], whole, longer]
 }
 
-fn compare_checks(files: usize) -> [Tally; 2] {
+/// Check, Count and Show; of the blocks the last two are shown, and the first that is missing.
+fn compare_checks(files: usize) -> [Tally; 3] {
     let mut random = Random(1);
-    let (mut checks, mut counts) = (Tally::default(), Tally::default());
+    let [mut checks, mut counts, mut shows] = [(); 3].map(|_| Tally::default());
     let mut compare = |file: &[u8]| {
         let (ours, other) = (library::check(file), twin::check(file));
         checks.add(&other, ours == other, || format!("Check {ours:?}, twin {other:?}"));
         let (ours, other) = (library::count(file), twin::count(file));
         counts.add(&other, ours == other, || format!("Count {ours:?}, twin {other:?}"));
+        let blocks = file.len() as u32 / 512;
+        for block in blocks.saturating_sub(2)..=blocks {
+            let (ours, other) = (library::show(file, block), twin::show(file, block));
+            let same = ours.map(<[u8]>::as_ptr_range) == other.map(<[u8]>::as_ptr_range);
+            shows.add(&other, same, || format!("Show {ours:?}, twin {other:?}, block {block}"));
+        }
     };
     for file in edge_files(&mut random) {
         compare(&file);
@@ -78,7 +85,7 @@ fn compare_checks(files: usize) -> [Tally; 2] {
         let most = if random.one_in(20) { 8064 } else { 600 };
         compare(&random_file(&mut random, most, true));
     }
-    [checks, counts]
+    [checks, counts, shows]
 }
 
 /// A length, sometimes one off.
@@ -194,10 +201,11 @@ fn sample_is_right() -> bool {
 
 /// Compares all operations; answers the number of differences.
 pub fn compare_all(designs: &[(String, Vec<u8>)]) -> usize {
-    let [checks, counts] = compare_checks(10_000);
+    let [checks, counts, shows] = compare_checks(10_000);
     let runs = compare_runs(4_000);
     let folds = compare_folds(6_000, designs);
-    let all = [("Check", checks), ("Count", counts), ("Run", runs), ("Fold", folds)];
+    let all =
+        [("Check", checks), ("Count", counts), ("Show", shows), ("Run", runs), ("Fold", folds)];
     for (name, tally) in &all {
         tally.print(name);
     }

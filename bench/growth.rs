@@ -60,12 +60,13 @@ pub fn print_folds() {
 /// Each operation at each size: the operation, the rows, the case.
 pub fn all_cases() -> Vec<(&'static str, usize, Case)> {
     let mut cases = Vec::new();
-    for name in ["Check", "Count", "Run", "Fold"] {
+    for name in ["Check", "Count", "Show", "Run", "Fold"] {
         for rows in SIZES {
             let file = encode(&family(rows));
             let task = match name {
                 "Check" => Task::Check,
                 "Count" => Task::Count,
+                "Show" => Task::Show { block: file.len() as u32 / 512 - 1 },
                 "Run" => run_task(&file, STEPS),
                 _ if rows > MOST_FOLDED => continue,
                 _ => Task::Fold { wish: 0 },

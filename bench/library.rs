@@ -15,6 +15,13 @@ struct PfFolded {
 }
 
 #[repr(C)]
+struct PfShown {
+    refusal: PfRefusal,
+    offset: u32,
+    size: u32,
+}
+
+#[repr(C)]
 struct PfRefusal {
     number: u32,
     place: u32,
@@ -23,6 +30,7 @@ struct PfRefusal {
 extern "C" {
     fn pf_check(file: *const u8, file_len: usize) -> PfRefusal;
     fn pf_count(file: *const u8, file_len: usize) -> PfCounts;
+    fn pf_show(file: *const u8, file_len: usize, block: u32) -> PfShown;
     fn pf_fold(
         file: *const u8,
         file_len: usize,
@@ -64,6 +72,12 @@ pub fn count(file: &[u8]) -> Result<Counts, Refusal> {
     let told = unsafe { pf_count(file.as_ptr(), file.len()) };
     let [nodes, inputs, registers, unknown, outputs] = told.counts;
     answer(told.refusal, Counts { nodes, inputs, registers, unknown, outputs })
+}
+
+pub fn show(file: &[u8], block: u32) -> Result<&[u8], Refusal> {
+    let told = unsafe { pf_show(file.as_ptr(), file.len(), block) };
+    let (offset, size) = (told.offset as usize, told.size as usize);
+    answer(told.refusal, &file[offset..offset + size])
 }
 
 pub fn run(

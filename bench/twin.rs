@@ -262,6 +262,15 @@ pub fn count(file: &[u8]) -> Result<Counts, Refusal> {
     Ok(count_rows(file))
 }
 
+/// The row part of a block.
+pub fn show(file: &[u8], block: u32) -> Result<&[u8], Refusal> {
+    check(file)?;
+    match file.chunks_exact(BLOCK).nth(block as usize) {
+        Some(block) => Ok(&block[4..508]),
+        None => refuse(21, 0),
+    }
+}
+
 // ---- Run ----
 
 fn value(values: &[u8], literal: u16) -> u8 {
