@@ -15,7 +15,7 @@ use Rattle.memory.proofs.ListLaws.{first-is, first-none}
 use Rattle.netlist.specs.Limits.{mostPhases, mostOriginalRows, mostOriginalRegisters, foldResultBytes, foldWorkBytes, foldClockEntries}
 use Rattle.netlist.specs.Rows.{Row, RowFields, rowFromFields, decodeRow, rowAt, phaseOf, isRegister}
 use Rattle.netlist.specs.FileFormat.{readFields, netlistOf}
-use Rattle.questions.specs.Questions.{Refusal, noRefusal, question, itemQuestions, fileRefusal, phaseQuestion, originalRefusal, foldMemoryRight, Counts, countsOf}
+use Rattle.questions.specs.Questions.{Refusal, noRefusal, question, itemQuestions, fileRefusal, phaseQuestion, originalRefusal, foldMemoryRight, Counts, countsOf, argumentQuestions}
 use Rattle.questions.proofs.QuestionLaws.{list-next, all-yes, _then_, number-none, question-of, list-stop, question-no}
 use Rattle.questions.proofs.PlainWords.{phaseQuestion-iff}
 use Rattle.blockfile.specs.declared.Fields.{Fields}
@@ -35,7 +35,7 @@ use Rattle.fold_core.specs.declared.FoldRefusal.{FoldRefusal}
 use Rattle.fold_core.specs.declared.FoldRefusal.the-variants.{File, Rows, Registers, Phase, Wish, Memory, NoLasso}
 use Rattle.fold_core.specs.EarlyAnswers.{hasPhase, AnswersTo}
 use Rattle.fold_core.specs.FoldAnswers.{foldRefusalIn}
-use Rattle.fold_core.specs.FoldParts.{argumentQuestions, earlyRefusal, Questioned}
+use Rattle.fold_core.specs.FoldParts.{earlyRefusal, Questioned}
 
 -- ---- the phase of a row, from its fields
 

@@ -19,7 +19,7 @@ use Rattle.lasso.proofs.PhaseCountLaws.{phases-pos, phases-le}
 use Rattle.lasso.proofs.ClockLaws.{used-le}
 use Rattle.abstraction.specs.Fold.{FoldAnswer, foldWith, foldFromLasso, foldNetlist}
 use Rattle.abstraction.proofs.FoldLaws.{fold-answers}
-use Rattle.questions.specs.Questions.{Refusal, noRefusal, namesEarlier, fileRefusal, originalRefusal}
+use Rattle.questions.specs.Questions.{Refusal, noRefusal, namesEarlier, fileRefusal, originalRefusal, argumentQuestions}
 use Rattle.questions.proofs.QuestionLaws.{NoneRefuses, all-none, number-none, question-none}
 use Rattle.questions.proofs.PlainWords.{MemoryRight, foldMemoryRight-iff}
 use Rattle.questions.proofs.AcceptedFiles.{FileRight, OriginalRight, file-right, original-right}
@@ -33,7 +33,7 @@ use Rattle.lasso_finder.proofs.ReadyLaws.{ready-of}
 use Rattle.fold.specs.UnrollMap.{Original, Room}
 use Rattle.fold.proofs.StoredBytes.{join-cong}
 use Rattle.fold_core.specs.FoldAnswers.{numbersOf, entriesOf, resultOf}
-use Rattle.fold_core.specs.FoldParts.{argumentQuestions, earlyRefusal, FoldReady, foldingOf, FoldMade}
+use Rattle.fold_core.specs.FoldParts.{earlyRefusal, FoldReady, foldingOf, FoldMade}
 use Rattle.fold_core.specs.FoldStages.{EntriesKept, FoldWritten, NumbersFit, numbersFrom}
 use Rattle.fold_core.specs.declared.FoldNumbers.{FoldNumbers}
 use Rattle.fold_core.specs.declared.FoldRefusal.the-variants.{NoLasso}

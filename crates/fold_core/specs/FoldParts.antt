@@ -2,14 +2,13 @@
 -- Assumes nothing.
 use Prim.Native.Nat.{ℕ, _≤_}
 use mathlib.Core.Path.{_≡_}
-use mathlib.Core.List.{List, [], _∷_}
+use mathlib.Core.List.{List, _∷_}
 use mathlib.Core.Option.{Option, none, some}
-use lib.Dec.{leb}
 use lib.ListN.{length}
-use Rattle.netlist.specs.Limits.{mostPhases, foldClockEntries}
+use Rattle.netlist.specs.Limits.{foldClockEntries}
 use Rattle.netlist.specs.FileFormat.{netlistOf}
 use Rattle.abstraction.specs.Fold.{FoldAnswer, foldNetlist}
-use Rattle.questions.specs.Questions.{Refusal, noRefusal, firstRefusal, question, fileRefusal, originalRefusal, foldMemoryRight}
+use Rattle.questions.specs.Questions.{Refusal, noRefusal, firstRefusal, fileRefusal, originalRefusal, argumentQuestions}
 use Rattle.lasso_finder.specs.WorkMap.{entriesIn}
 use Rattle.lasso_finder.specs.Outcome.{WorkReady}
 use Rattle.fold_core.specs.FoldAnswers.{foldRefusalIn, usedIn, numbersOf, entriesOf, resultOf}
@@ -20,10 +19,6 @@ use Rattle.fold_core.specs.declared.Folding.{Folding}
 use Rattle.fold_core.specs.declared.Folding.the-variants.{Done, Refused}
 
 -- ---- questions 1 to 15
-
--- 14 and 15: the wish, and the lengths of what Fold is lent.
-abbrev pub argumentQuestions : ℕ → ℕ → ℕ → ℕ → List Refusal
-argumentQuestions wish result work clocks = question 14 (leb wish mostPhases) ∷ question 15 (foldMemoryRight result work clocks) ∷ []
 
 -- The first no of questions 1 to 15.
 unfoldable pub earlyRefusal : List ℕ → ℕ → ℕ → ℕ → ℕ → Refusal

@@ -13,7 +13,7 @@ use Rattle.netlist.specs.Limits.{mostBlocks}
 use Rattle.netlist.specs.FileFormat.{blockAt, rowPart, blockCount}
 use Rattle.questions.specs.Questions.{Refusal, noRefusal, firstRefusal, question, namesEarlier, fileRefusal, showRefusal}
 use Rattle.questions.proofs.QuestionLaws.{list-none, list-next, number-none, list-stop, question-none}
-use Rattle.questions.proofs.AcceptedFiles.{FileRight, file-right}
+use Rattle.questions.proofs.AcceptedFiles.{file-right}
 use Rattle.accept.specs.Refusals.{numberOf, placeOf, refusalIn, acceptRefusal}
 use Rattle.accept.specs.declared.FileRefusal.{FileRefusal}
 use Rattle.accept.specs.declared.Acceptance.{Acceptance}

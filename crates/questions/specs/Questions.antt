@@ -4,7 +4,7 @@
 -- Assumes nothing.
 use Prim.Native.Nat.{ℕ, zero, suc, _+_, _-_, _*_, _/_, _%_, _^_}
 use mathlib.Core.Bool.{Bool, true, false, cond, not, _&&_, _||_}
-use mathlib.Core.List.{List, [], _∷_, map}
+use mathlib.Core.List.{List, [], _∷_, _++_, map}
 use mathlib.Core.Option.{none, some}
 use lib.ListN.{length}
 use lib.Dec.{eqb, ltb, leb}
@@ -135,15 +135,17 @@ foldMemoryRight result work clocks = leb foldResultBytes result && leb foldWorkB
 abbrev pub hasLasso : List Row → Bool
 hasLasso rows = elim (findLasso rows) [ none ↦ false | some z ↦ true ]
 
+-- 14 and 15: what Fold asks of the wish and of what it is lent.
+abbrev pub argumentQuestions : ℕ → ℕ → ℕ → ℕ → List Refusal
+argumentQuestions wish result work clocks = question 14 (leb wish mostPhases) ∷ question 15 (foldMemoryRight result work clocks) ∷ []
+
 unfoldable pub foldRefusal : List ℕ → ℕ → ℕ → ℕ → ℕ → Refusal
 foldRefusal file wish result work clocks =
     firstRefusal
     (fileRefusal file
     ∷ originalRefusal (netlistOf file)
-    ∷ question 14 (leb wish mostPhases)
-    ∷ question 15 (foldMemoryRight result work clocks)
-    ∷ question 16 (hasLasso (netlistOf file))
-    ∷ [])
+    ∷ argumentQuestions wish result work clocks
+    ++ (question 16 (hasLasso (netlistOf file)) ∷ []))
 
 -- ---- Run: T steps, the two lists of values, and the lengths of result and work
 
@@ -156,16 +158,17 @@ allBinary vs = allBelow (length vs) (λ i. leb (byteAt vs i) 1)
 abbrev pub runMemoryRight : List Row → ℕ → ℕ → ℕ → Bool
 runMemoryRight rows T result work = leb (T * countIf isOutput rows) result && leb runWorkBytes work
 
-unfoldable pub runRefusal : List ℕ → ℕ → List ℕ → List ℕ → ℕ → ℕ → Refusal
-runRefusal file T choices inputs result work =
-    let rows = netlistOf file in
-    firstRefusal
-    (fileRefusal file
-    ∷ question 17 (leb T mostSteps)
+-- 17 to 20: what Run asks of a netlist's rows.
+abbrev pub stepQuestions : List Row → ℕ → List ℕ → List ℕ → ℕ → ℕ → List Refusal
+stepQuestions rows T choices inputs result work =
+    question 17 (leb T mostSteps)
     ∷ question 18 (valueListsRight rows T choices inputs)
     ∷ question 19 (allBinary choices && allBinary inputs)
     ∷ question 20 (runMemoryRight rows T result work)
-    ∷ [])
+    ∷ []
+
+unfoldable pub runRefusal : List ℕ → ℕ → List ℕ → List ℕ → ℕ → ℕ → Refusal
+runRefusal file T choices inputs result work = firstRefusal (fileRefusal file ∷ stepQuestions (netlistOf file) T choices inputs result work)
 
 -- ---- Show of block B, and Count
 

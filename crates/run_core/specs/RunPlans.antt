@@ -2,15 +2,13 @@
 -- Assumes nothing.
 use Prim.Native.Nat.{ℕ}
 use mathlib.Core.Path.{_≡_}
-use mathlib.Core.Bool.{not, _&&_}
-use mathlib.Core.List.{List, [], _∷_}
-use lib.Dec.{leb}
+use mathlib.Core.Bool.{not}
+use mathlib.Core.List.{List}
 use lib.ListN.{length}
 use Rattle.memory.specs.Lists.{countIf}
-use Rattle.netlist.specs.Limits.{mostSteps}
 use Rattle.netlist.specs.Rows.{Row, isInput, isOutput}
 use Rattle.netlist.specs.FileFormat.{netlistOf}
-use Rattle.questions.specs.Questions.{Refusal, noRefusal, firstRefusal, question, valueListsRight, allBinary, runMemoryRight, runRefusal, Counts, countsOf}
+use Rattle.questions.specs.Questions.{Refusal, noRefusal, firstRefusal, stepQuestions, runRefusal, Counts, countsOf}
 use Rattle.run_core.specs.RunAnswers.{runRefusalIn}
 use Rattle.run_core.specs.declared.RunPlan.{RunPlan}
 use Rattle.run_core.specs.declared.RunPlan.the-variants.{Go, Stop}
@@ -19,15 +17,9 @@ abbrev pub planRefusal : RunPlan → Refusal
 planRefusal (Go rows nodes inputs) = noRefusal
 planRefusal (Stop r) = runRefusalIn r
 
--- Questions 17 to 20.
+-- The first no of questions 17 to 20.
 unfoldable pub stepsRefusal : List Row → ℕ → List ℕ → List ℕ → ℕ → ℕ → Refusal
-stepsRefusal rows T choices inputs result work =
-    firstRefusal
-    (question 17 (leb T mostSteps)
-    ∷ question 18 (valueListsRight rows T choices inputs)
-    ∷ question 19 (allBinary choices && allBinary inputs)
-    ∷ question 20 (runMemoryRight rows T result work)
-    ∷ [])
+stepsRefusal rows T choices inputs result work = firstRefusal (stepQuestions rows T choices inputs result work)
 
 -- They are asked of any netlist that has these counts, and n rows are to be run.
 pub record StepsPlanned (n : ℕ) (counts : Counts) (T : ℕ) (choices inputs : List ℕ) (result work : ℕ) (plan : RunPlan) : Type 0 where

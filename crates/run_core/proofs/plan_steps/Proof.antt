@@ -1,6 +1,6 @@
-use native.Mathlib.Omega.{arith}
 -- `run_core::plan_steps` asks 17 to 20 in order, by the counts.
 -- Assumes nothing.
+use native.Mathlib.Omega.{arith}
 use Rattle.blockfile.specs.CountCode.{countsIn}
 use Rattle.run_core.proofs.PlanLaws.{stops-17, stops-18, stops-19, stops-20, goes}
 use borrow.Author.Needs.{needs}

@@ -3,7 +3,7 @@
 use native.Mathlib.Omega.{arith}
 use borrow.Author.Needs.{needs}
 use Rattle.netlist.specs.FileFormat.{netlistOf}
-use Rattle.fold_core.specs.FoldParts.{argumentQuestions}
+use Rattle.questions.specs.Questions.{argumentQuestions}
 use Rattle.fold_core.proofs.EarlyLaws.{rows-no, registers-no, phase-no, original-passed}
 use Rattle.fold_core.proofs.early.ask_original.Statement.{statement}
 use Rattle.fold_core.proofs.early.ask_original.Tie as tie
