@@ -2,16 +2,14 @@
 -- Assumes nothing.
 use Prim.Native.Nat.{ℕ, zero, suc, _+_, _-_, _*_, _<_, _≤_}
 use mathlib.Core.Path.{_≡_, refl, sym, ap, ap₂, _∙_}
-use mathlib.Core.Bool.{Bool, true, false, cond, false≢true}
+use mathlib.Core.Bool.{Bool, true, false, cond}
 use mathlib.Core.List.{List, [], _∷_}
 use native.Mathlib.Omega.{arith}
-use native.Mathlib.Decide.{decLt}
 use lib.ListN.{length, take, drop}
 use lib.Dec.{ltb}
 use borrow.Author.Count.{below-more}
 use borrow.Author.Tests.{lt-ltb, le-ltb}
-use Rattle.memory.specs.Lists.{firstFrom}
-use Rattle.memory.proofs.ListLaws.{first-is, first-least}
+use Rattle.memory.proofs.ListLaws.{first-found}
 use Rattle.netlist.specs.FileFormat.{blockCount, fieldsOf}
 use Rattle.questions.specs.Questions.{Refusal, noRefusal, firstRefusal, question, itemQuestions, lengthRight, blockQuestions, namesEarlier, rowsRefusal, fileRefusalWith, fileRefusal}
 use Rattle.questions.proofs.QuestionLaws.{list-next, list-stop, number-none, question-of, items-yes}
@@ -37,21 +35,11 @@ number-positive NoOutput = omega arith
 
 -- ---- items asked in turn: all before item i are right
 
--- The first of n numbers that passes a test.
-first-at : (n i : ℕ) (t : ℕ → Bool) → i < n → ((j : ℕ) → j < i → t j ≡ false) → t i ≡ true → firstFrom 0 n t ≡ i
-first-at n i t l b e =
-    let F = first-is 0 n t in
-    let m = first-least 0 n t i (omega arith) e in
-    elim (decLt (firstFrom 0 n t) i) [
-      | yes k ↦ absurd (false≢true (sym (b (firstFrom 0 n t) k) ∙ F .holds (omega arith)))
-      | no k ↦ omega arith
-    ]
-
 module _ (n : ℕ) (f : ℕ → ℕ) (i : ℕ) (more : i < n) (before : (j : ℕ) → j < i → f j ≡ 0) (a : Acceptance) (asked : acceptRefusal a ≡ refusalAt (f i) i) where
   items-at : 0 < f i → itemQuestions n f ≡ record { number = f i; place = i }
   items-at p =
       let t : ℕ → Bool = λ j. ltb 0 (f j) in
-      let e = first-at n i t more (λ j k. le-ltb 0 (f j) (omega (arith, before j k))) (lt-ltb 0 (f i) p) in
+      let e = first-found 0 n t i (omega arith) (omega arith) (λ j _ k. le-ltb 0 (f j) (omega (arith, before j k))) (lt-ltb 0 (f i) p) in
       ap (λ (j : ℕ). cond (ltb j n) (record { number = f j; place = j }) noRefusal) e ∙ ap (λ (b : Bool). cond b (record { number = f i; place = i }) noRefusal) (lt-ltb i n more)
 
   -- A refusal of item i is the items' first.

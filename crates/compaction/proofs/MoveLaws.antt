@@ -2,18 +2,17 @@
 -- Assumes nothing.
 use Prim.Native.Nat.{ℕ, _+_, _<_, _≤_, _/_, _%_, _^_}
 use mathlib.Core.Path.{_≡_, refl, sym, ap, _∙_, subst}
-use mathlib.Core.Logic.{_≢_}
 use mathlib.Core.Bool.{Bool, true, false, cond}
 use mathlib.Core.List.{List, [], _∷_, _++_, append-nil}
 use native.Mathlib.Omega.{arith}
 use native.Mathlib.Numerals.{add-one}
-use lib.ListN.{length, length-append, List·getD-append}
-use lib.Seq.{sets, getD-at, ext-getD}
+use lib.ListN.{length}
+use lib.Seq.{sets, ext-getD}
 use lib.Dec.{ltb}
 use borrow.Author.Tests.{le-leb, lt-leb}
 use Rattle.memory.specs.Fields.{byteAt}
-use Rattle.memory.proofs.TestLaws.{last-or}
 use Rattle.memory.proofs.ListLaws.{tabulate-length, tabulate-at}
+use Rattle.memory.proofs.FrameLaws.{kept-sets}
 use Rattle.netlist.specs.Limits.{mostFoldedRows, foldResultBytes}
 use Rattle.netlist.specs.Rows.{Row, constant, encodeRow, decodeRow, rowAt}
 use Rattle.netlist.specs.FileFormat.{rowOffset, readFields, fieldBytes, rowBytes}
@@ -23,11 +22,12 @@ use Rattle.abstraction.specs.Compaction.{isMarked, coneOfInfluence, newIndex, r
 use Rattle.abstraction.proofs.CompactionLaws.{renumbered, compact-length}
 use Rattle.blockfile.specs.RowCode.{fieldsIn, Small}
 use Rattle.blockfile.specs.RowsStand.{RowsStand}
+use Rattle.blockfile.proofs.StandLaws.{row-room, row-next, stand-more}
 use Rattle.compaction.specs.Compactable.{Compactable, heldRow, heldRows, HeldInside}
 use Rattle.compaction.specs.Slots.{slotAt, markAt, bitOf, Numbered}
 use Rattle.compaction.specs.Moves.{literalCount, renumberFields, renumberIn, moveRow, RowKept, Movable, MovedTo}
 use Rattle.compaction.proofs.KindLaws.{encode-map, map-same}
-use Rattle.compaction.proofs.SlotLaws.{sets-in, sets-out, bit-le, index-none, index-suc, index-le}
+use Rattle.compaction.proofs.SlotLaws.{bit-le, index-none, index-suc, index-le}
 
 -- ---- a row renumbered by the code
 
@@ -39,21 +39,7 @@ pub row-renumbered : (w : List ℕ) (count k r a b c a′ b′ c′ : ℕ) → c
     → (fieldsIn (record { kind = k; reset = r; a = a′; b = b′; c = c′ }) ≡ renumberFields (renumberIn w) (record { kind = k; reset = r; a = a; b = b; c = c })) × Small (record { kind = k; reset = r; a = a′; b = b′; c = c′ })
 row-renumbered w count k r a b c a′ b′ c′ e x y z = (rw (x .0, y .0, z .0, e), record { a-small = x .1; b-small = y .1; c-small = z .1 })
 
--- ---- a row's eight bytes
-
--- Two rows' places do not meet.
-place-apart : (i j d : ℕ) → i ≢ j → d < 8 → rowOffset i ≤ rowOffset j + d → rowOffset j + d < rowOffset i + 8 → ⊥
-place-apart i j d n h a b = n (omega arith)
-
 -- ---- rows that stand
-
-stand-more : (f : List ℕ) (rs : List Row) (r : Row) → length rs < mostFoldedRows → foldResultBytes ≤ length f → RowsStand rs f → RowsStand (rs ++ (r ∷ [])) (sets f (rowOffset (length rs)) (rowBytes r))
-stand-more f rs r few room s i d h l =
-    last-or i (length rs) (omega (arith, length-append rs (r ∷ [])))
-    (λ b. sets-out (rowBytes r) f (rowOffset (length rs)) (rowOffset i + d) (place-apart (length rs) i d (λ q. omega arith) l)
-    ∙ s i d b l ∙ ap (λ x. byteAt (rowBytes x) d) (sym (List·getD-append rs (r ∷ []) constant i b)))
-    (λ q. subst (λ (x : ℕ). byteAt (sets f (rowOffset (length rs)) (rowBytes r)) (rowOffset x + d) ≡ byteAt (rowBytes (rowAt (rs ++ (r ∷ [])) x)) d) (sym q)
-    (sets-in (rowBytes r) f (rowOffset (length rs)) d l (omega arith) ∙ ap (λ x. byteAt (rowBytes x) d) (sym (getD-at rs r [] constant (length rs) refl))))
 
 -- Rows that stand are read as they are.
 pub held-are : (f : List ℕ) (n : ℕ) (rs : List Row) → length rs ≡ n → RowsStand rs f → Compactable rs → heldRows f n ≡ rs
@@ -91,7 +77,7 @@ module _ (f₀ f f′ w : List ℕ) (n i t t′ : ℕ) (h : i < n) (few : n ≤ 
     where
       go : (x : Bool) → byteAt (cond x (moveRow f w i t) f) (rowOffset j + d) ≡ byteAt f₀ (rowOffset j + d)
       go true =
-          sets-out (fieldBytes (renumberFields (renumberIn w) (readFields f i))) f (rowOffset t) (rowOffset j + d) (place-apart t j d (λ q. omega (arith, M .low)) l)
+          kept-sets (rowOffset t) (rowOffset t + 8) (fieldBytes (renumberFields (renumberIn w) (readFields f i))) f (rowOffset t) (omega arith) (omega arith) .after (rowOffset j + d) (omega (arith, row-next t j (omega (arith, M .low))))
           ∙ M .rest j d (omega arith) b l
       go false = M .rest j d (omega arith) b l
 
@@ -143,7 +129,7 @@ module _ (f₀ f f′ w : List ℕ) (n i t t′ : ℕ) (h : i < n) (few : n ≤ 
         go : (x : Bool) → RowsStand (compactUpTo rs m i ++ cond x (renumbered m (rowAt rs i) ∷ []) []) (cond x (moveRow f w i t) f)
         go true =
             subst (RowsStand (compactUpTo rs m i ++ (renumbered m (rowAt rs i) ∷ []))) moved-bytes
-            (stand-more f (compactUpTo rs m i) (renumbered m (rowAt rs i)) (omega (arith, place, M .low)) room before)
+            (stand-more (compactUpTo rs m i) f (length (compactUpTo rs m i)) (renumbered m (rowAt rs i)) refl (omega (arith, room, row-room (length (compactUpTo rs m i)) (omega (arith, place, M .low)))) before)
         go false = subst (λ (xs : List Row). RowsStand xs f) (sym (append-nil (compactUpTo rs m i))) before
 
     moved-next : (t′ ≡ newIndex m (i + 1)) × RowsStand (compactUpTo rs m (i + 1)) f′

@@ -1,4 +1,4 @@
--- Bytes after a run of stores, slots read again, rows marked and found, and rows numbered.
+-- Slots read again, rows marked and found, and rows numbered.
 -- Assumes nothing.
 use Prim.Native.Nat.{ℕ, zero, suc, _+_, _-_, _*_, _<_, _≤_, _/_, _%_, _^_}
 use mathlib.Core.Path.{_≡_, refl, sym, ap, _∙_}
@@ -9,57 +9,32 @@ use native.Mathlib.Omega.{arith}
 use native.Mathlib.Decide.{ℕ-discrete}
 use native.Mathlib.Numerals.{add-one}
 use lib.ListN.{length, set, take, drop, replicate, length-set, List·getD-append}
-use lib.Seq.{sets, set-out, set-getD, getD-set-same, getD-set-other, length-take-le, drop-at, getD-take, getD-drop, ext-getD}
+use lib.Seq.{set-out, set-getD, getD-set-same, getD-set-other, length-take-le, drop-at, getD-take, getD-drop, ext-getD}
 use lib.Dec.{leb}
 use borrow.Author.Tests.{leb-true, leb-false, le-leb, lt-leb}
-use borrow.Rule.Slice.PartMut.{midOf, postOf, putMid, mid-len, take-put, drop-put}
+use borrow.Rule.Slice.PartMut.{midOf, postOf, putMid, same-len-mid, mid-len, take-put, drop-put}
 use Rattle.memory.specs.Lists.{tabulate, countIf}
 use Rattle.memory.specs.Fields.{byteAt, u16Bytes}
+use Rattle.memory.specs.Frames.{KeptOutside}
 use Rattle.memory.proofs.TestLaws.{last-or}
 use Rattle.memory.proofs.ListLaws.{tabulate-length, tabulate-at, count-last}
-use Rattle.memory.proofs.FieldLaws.{u16-read}
+use Rattle.memory.proofs.FieldLaws.{zeros-at}
+use Rattle.memory.proofs.FrameLaws.{u16-kept, kept-sets, u16-back}
 use Rattle.netlist.specs.Limits.{mostFoldedRows, foldWorkBytes}
 use Rattle.abstraction.specs.Compaction.{isMarked, markAll, newIndex}
-use Rattle.compaction.specs.Slots.{slotsStart, slotsEnd, SameOutside, slotAt, setSlot, markAt, marksIn, foundAt, RowMarked, RowListed, Found, Pushed, bitOf, numberOf, Numbered}
-
--- ---- a run of stores, byte by byte
-
-pub sets-out : (vs l : List ℕ) (i x : ℕ) → (i ≤ x → x < i + length vs → ⊥) → byteAt (sets l i vs) x ≡ byteAt l x
-sets-out [] l i x h = refl
-sets-out (v ∷ vs) l i x h = sets-out vs (set l i v) (suc i) x (λ a b. h (omega arith) (omega arith)) ∙ getD-set-other l i x v 0 (λ e. h (omega arith) (omega arith))
-
-pub sets-in : (vs l : List ℕ) (i d : ℕ) → d < length vs → i + length vs ≤ length l → byteAt (sets l i vs) (i + d) ≡ byteAt vs d
-sets-in [] l i d h k = absurd (omega arith)
-sets-in (v ∷ vs) l i zero h k =
-    let e : i + 0 ≡ i = omega arith in
-    rw e (sets-out vs (set l i v) (suc i) i (λ a b. omega arith) ∙ getD-set-same l i v 0 (omega arith))
-sets-in (v ∷ vs) l i (suc d) h k =
-    let e : i + suc d ≡ suc i + d = omega arith in
-    rw e (sets-in vs (set l i v) (suc i) d (omega arith) (rw length-set (omega arith)))
+use Rattle.compaction.specs.Slots.{slotsStart, slotsEnd, slotAt, setSlot, markAt, marksIn, foundAt, RowMarked, RowListed, Found, Pushed, bitOf, numberOf, Numbered}
 
 -- ---- a slot
 
 module _ (w : List ℕ) (j v : ℕ) where
   pub slot-same : 2 * j + 2 ≤ length w → v < 2 ^ 16 → slotAt (setSlot w j v) j ≡ v
-  slot-same h k =
-      let e : 2 * j + 0 ≡ 2 * j = omega arith in
-      u16-read (setSlot w j v) (2 * j) v k (rw e at (sets-in (u16Bytes v) w (2 * j) 0 (omega arith) h)) (sets-in (u16Bytes v) w (2 * j) 1 (omega arith) h)
+  slot-same h k = u16-back w (2 * j) v k h
 
   pub slot-other : (x : ℕ) → x ≢ j → slotAt (setSlot w j v) x ≡ slotAt w x
-  slot-other x d =
-      omega (
-        arith,
-        sets-out (u16Bytes v) w (2 * j) (2 * x) (λ a b. d (omega arith)),
-        sets-out (u16Bytes v) w (2 * j) (2 * x + 1) (λ a b. d (omega arith)),
-      )
-
-zero-at : (n i : ℕ) → byteAt (replicate n 0) i ≡ 0
-zero-at zero i = refl
-zero-at (suc n) zero = refl
-zero-at (suc n) (suc i) = zero-at n i
+  slot-other x d = u16-kept (kept-sets (2 * j) (2 * j + 2) (u16Bytes v) w (2 * j) (omega arith) (omega arith)) (2 * x) (λ y a b c e. d (omega arith))
 
 pub slots-cleared : (w : List ℕ) (n : ℕ) → w ≡ replicate n 0 → (j : ℕ) → slotAt w j ≡ 0
-slots-cleared w n e j = rw (e, zero-at n (2 * j), zero-at n (2 * j + 1))
+slots-cleared w n e j = rw (e, zeros-at n (2 * j), zeros-at n (2 * j + 1))
 
 -- A slot's mark, and the rest of it.
 pub mark-yes : (w : List ℕ) (j : ℕ) → 2 ^ 15 ≤ slotAt w j → markAt w j ≡ true
@@ -278,13 +253,14 @@ row-numbered w w′ i t v h e =
 
 -- ---- the slots' place in the work memory
 
-pub same-outside : (w w′ : List ℕ) (lo hi : ℕ) → take lo w′ ≡ take lo w → drop hi w′ ≡ drop hi w → SameOutside lo hi w w′
-same-outside w w′ lo hi p q i = (
-  λ h. sym (getD-take lo w′ i 0 h) ∙ ap (λ l. byteAt l i) p ∙ getD-take lo w i 0 h,
-  λ h.
+same-outside : (w w′ : List ℕ) (lo hi : ℕ) → length w′ ≡ length w → take lo w′ ≡ take lo w → drop hi w′ ≡ drop hi w → KeptOutside lo hi w w′
+same-outside w w′ lo hi n p q = record {
+  long = n;
+  before = λ i h. sym (getD-take lo w′ i 0 h) ∙ ap (λ l. byteAt l i) p ∙ getD-take lo w i 0 h;
+  after = λ i h.
       let e : i ≡ hi + (i - hi) = omega arith in
-      ap (byteAt w′) e ∙ sym (getD-drop hi w′ (i - hi) 0) ∙ ap (λ l. byteAt l (i - hi)) q ∙ getD-drop hi w (i - hi) 0 ∙ ap (byteAt w) (sym e),
-)
+      ap (byteAt w′) e ∙ sym (getD-drop hi w′ (i - hi) 0) ∙ ap (λ l. byteAt l (i - hi)) q ∙ getD-drop hi w (i - hi) 0 ∙ ap (byteAt w) (sym e);
+}
 
 -- The work memory w after its slots were lent and came back as ys, and the part of it that is read then.
 abbrev pub workAfter : List ℕ → List ℕ → List ℕ
@@ -297,9 +273,9 @@ module _ (w ys : List ℕ) (room : foldWorkBytes ≤ length w) (l : length ys �
   size : length ys ≡ slotsEnd - slotsStart
   size = l ∙ mid-len slotsStart slotsEnd w (omega arith)
 
-  pub slots-outside : SameOutside slotsStart slotsEnd w (workAfter w ys)
+  pub slots-outside : KeptOutside slotsStart slotsEnd w (workAfter w ys)
   slots-outside =
-      same-outside w (workAfter w ys) slotsStart slotsEnd (take-put slotsStart (slotsEnd - slotsStart) w ys (omega arith)) (drop-put slotsStart slotsEnd w ys (omega arith) (omega arith) size)
+      same-outside w (workAfter w ys) slotsStart slotsEnd (same-len-mid slotsStart (slotsEnd - slotsStart) w ys l) (take-put slotsStart (slotsEnd - slotsStart) w ys (omega arith)) (drop-put slotsStart slotsEnd w ys (omega arith) (omega arith) size)
 
   byte-after : (i : ℕ) → i < slotsEnd - slotsStart → byteAt (slotsAfter w ys) i ≡ byteAt ys i
   byte-after i h =

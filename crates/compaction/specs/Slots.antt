@@ -8,7 +8,7 @@ use mathlib.Core.List.{List}
 use lib.Dec.{leb}
 use lib.Seq.{sets}
 use Rattle.memory.specs.Lists.{tabulate, countIf}
-use Rattle.memory.specs.Fields.{byteAt, u16At, u16Bytes}
+use Rattle.memory.specs.Fields.{u16At, u16Bytes}
 use Rattle.netlist.specs.Limits.{mostFoldedRows}
 use Rattle.abstraction.specs.Compaction.{isConeRoot, isMarked, markAll, newIndex}
 use Rattle.compaction.specs.Compactable.{heldRow}
@@ -19,10 +19,6 @@ slotsStart = 32768
 
 abbrev pub slotsEnd : ℕ
 slotsEnd = slotsStart + 2 * mostFoldedRows
-
--- The bytes before lo, and from hi on, are the same.
-abbrev pub SameOutside : ℕ → ℕ → List ℕ → List ℕ → Type 0
-SameOutside lo hi w w′ = (i : ℕ) → (i < lo → byteAt w′ i ≡ byteAt w i) × (hi ≤ i → byteAt w′ i ≡ byteAt w i)
 
 abbrev pub slotAt : List ℕ → ℕ → ℕ
 slotAt w j = u16At w (2 * j)

@@ -6,6 +6,7 @@ ghost use mathlib.Core.List.{List, [], _∷_};
 ghost use Prim.Native.Nat.{ℕ, _+_, _*_, _<_, _≤_, _^_};
 ghost use lib.ListN.{length};
 ghost use lib.Dec.{ltb};
+ghost use Rattle.memory.specs.Frames.{KeptOutside};
 ghost use Rattle.netlist.specs.Limits.{mostFoldedRows, foldResultBytes, foldWorkBytes};
 ghost use Rattle.netlist.specs.Rows.{Row, rowFromFields, decodeRow};
 ghost use Rattle.abstraction.specs.Compaction.{
@@ -20,7 +21,6 @@ ghost use Rattle.compaction.specs.Compactable.{Compactable, heldRow, hel
 ghost use Rattle.compaction.specs.Slots.{
   slotsStart,
   slotsEnd,
-  SameOutside,
   slotAt,
   setSlot,
   markAt,
@@ -331,7 +331,7 @@ pub fn compact_rows(result: &mut [u8], work: &mut [u8], rows: usize) -> usize
     requires { ⌜ (foldResultBytes ≤ length (now result)) × (foldWorkBytes ≤ length (now work)) ⌝ }
     ensures { λ r. ⌜ ((rs : List Row) → length rs ≡ rows → RowsStand rs (now (result .entry)) → Compactable rs → (r ≡ length (compact rs)) × RowsStand (compact rs) (now (result .exit))) ⌝ }
     ensures { λ _. ⌜ (length (now (result .exit)) ≡ length (now (result .entry))) × (length (now (work .exit)) ≡ length (now (work .entry))) ⌝ }
-    ensures { λ _. ⌜ SameOutside slotsStart slotsEnd (now (work .entry)) (now (work .exit)) ⌝ }
+    ensures { λ _. ⌜ KeptOutside slotsStart slotsEnd (now (work .entry)) (now (work .exit)) ⌝ }
 {
     mark_rows(result, &mut work[32768..48896], rows);
     move_rows(result, &work[32768..49152], rows)

@@ -15,8 +15,9 @@ use Rattle.netlist.specs.Rows.{Row, output, rowFromFields, decodeRow}
 use Rattle.netlist.specs.FileFormat.{rowOffset, readFields, netlistOf, fieldBytes, rowBytes}
 use Rattle.abstraction.specs.Unrolling.{phaseOutput}
 use Rattle.blockfile.specs.RowsStand.{RowsStand}
+use Rattle.blockfile.proofs.StandLaws.{row-room, stand-more}
 use Rattle.fold.specs.UnrollMap.{Original, imagePlace, imagesIn, fieldsMade, Appended, outputAt}
-use Rattle.fold.proofs.StoredBytes.{image-get, row-room, stand-more}
+use Rattle.fold.proofs.StoredBytes.{image-get}
 
 -- ---- rows appended
 

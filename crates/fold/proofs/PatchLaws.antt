@@ -8,16 +8,18 @@ use native.Mathlib.Numerals.{add-one}
 use lib.ListN.{length}
 use lib.Seq.{sets}
 use Rattle.memory.specs.Fields.{byteAt, u16At, u16Bytes}
+use Rattle.memory.specs.Frames.{KeptOutside}
 use Rattle.memory.proofs.TestLaws.{last-or}
 use Rattle.memory.proofs.FieldLaws.{u16-read}
+use Rattle.memory.proofs.FrameLaws.{kept-none, kept-join, kept-sets, sets-at}
 use Rattle.netlist.specs.Limits.{mostRows, mostOriginalRows, foldResultBytes}
 use Rattle.netlist.specs.Rows.{Row, constant, input, register, andGate, xorGate, muxGate, output, kindOf}
 use Rattle.netlist.specs.FileFormat.{rowOffset}
 use Rattle.netlist.proofs.WellFormed.{NextBelow}
 use Rattle.abstraction.specs.Unrolling.{imageLiteral, patchNext}
+use Rattle.blockfile.proofs.StandLaws.{row-room, row-next}
 use Rattle.fold.specs.UnrollMap.{imagesIn, RowStands, NextFits, NextsPatched}
 use Rattle.fold.proofs.UnrollFacts.{as-register}
-use Rattle.fold.proofs.StoredBytes.{sets-before, sets-after, sets-in, row-room, row-next}
 
 -- ---- what a row's bytes say
 
@@ -47,17 +49,20 @@ patch-other images (output _ _ _) n = refl
 
 -- ---- one row
 
--- The two bytes of the next value are written.
+-- Only the two bytes of the next value are written.
+next-kept : (v j : ℕ) (f : List ℕ) → KeptOutside (rowOffset j + 2) (rowOffset j + 4) f (sets f (rowOffset j + 2) (u16Bytes v))
+next-kept v j f = kept-sets (rowOffset j + 2) (rowOffset j + 4) (u16Bytes v) f (rowOffset j + 2) (omega arith) (omega arith)
+
 next-stands : (s a l v j : ℕ) (f : List ℕ) → rowOffset j + 8 ≤ length f → RowStands (register s a l) j f → RowStands (register s v l) j (sets f (rowOffset j + 2) (u16Bytes v))
-next-stands s a l v j f h t zero b = sets-before (u16Bytes v) f (rowOffset j + 2) (rowOffset j + 0) (omega arith) ∙ t 0 b
-next-stands s a l v j f h t (suc zero) b = sets-before (u16Bytes v) f (rowOffset j + 2) (rowOffset j + 1) (omega arith) ∙ t 1 b
+next-stands s a l v j f h t zero b = next-kept v j f .before (rowOffset j + 0) (omega arith) ∙ t 0 b
+next-stands s a l v j f h t (suc zero) b = next-kept v j f .before (rowOffset j + 1) (omega arith) ∙ t 1 b
 next-stands s a l v j f h t (suc (suc zero)) b =
     let e : rowOffset j + 2 ≡ rowOffset j + 2 + 0 = omega arith in
-    ap (byteAt (sets f (rowOffset j + 2) (u16Bytes v))) e ∙ sets-in (u16Bytes v) f (rowOffset j + 2) 0 (omega arith) (omega arith)
+    ap (byteAt (sets f (rowOffset j + 2) (u16Bytes v))) e ∙ sets-at (u16Bytes v) f (rowOffset j + 2) 0 (omega arith) (omega arith)
 next-stands s a l v j f h t (suc (suc (suc zero))) b =
     let e : rowOffset j + 3 ≡ rowOffset j + 2 + 1 = omega arith in
-    ap (byteAt (sets f (rowOffset j + 2) (u16Bytes v))) e ∙ sets-in (u16Bytes v) f (rowOffset j + 2) 1 (omega arith) (omega arith)
-next-stands s a l v j f h t (suc (suc (suc (suc d)))) b = sets-after (u16Bytes v) f (rowOffset j + 2) (rowOffset j + suc (suc (suc (suc d)))) (omega arith) ∙ t (suc (suc (suc (suc d)))) b
+    ap (byteAt (sets f (rowOffset j + 2) (u16Bytes v))) e ∙ sets-at (u16Bytes v) f (rowOffset j + 2) 1 (omega arith) (omega arith)
+next-stands s a l v j f h t (suc (suc (suc (suc d)))) b = next-kept v j f .after (rowOffset j + suc (suc (suc (suc d)))) (omega arith) ∙ t (suc (suc (suc (suc d)))) b
 
 pub next-in-range : (j place next : ℕ) (result : List ℕ) → place ≡ rowOffset j → byteAt result place ≡ 2 → next ≡ u16At result (place + 2) → NextFits j result → next / 2 < mostOriginalRows
 next-in-range j place next result e h f g = rw (f, e) (g (sym (ap (byteAt result) e) ∙ h))
@@ -83,10 +88,7 @@ module _ (work : List ℕ) (k j place : ℕ) (result : List ℕ) (e : place ≡ 
         let o = row-next j (suc j) (omega arith) in
         record {
           patched = λ n few x r a b nb s. let q : j ≡ x = omega arith in subst (λ (z : ℕ). RowStands (patchNext (imagesIn work k n) r) z result′) q (here n few r nb (subst (λ (z : ℕ). RowStands r z result) (sym q) s));
-          kept = record {
-            before = λ p l. rw written (sets-before (u16Bytes image) result (rowOffset j + 2) p (omega arith));
-            after = λ p l. rw written (sets-after (u16Bytes image) result (rowOffset j + 2) p (omega arith));
-          };
+          kept = rw written (kept-sets (rowOffset j) (rowOffset (suc j)) (u16Bytes image) result (rowOffset j + 2) (omega arith) (omega arith));
         }
 
   pub patch-none : (byteAt result place ≡ 2 → ⊥) → NextsPatched work k j (suc j) result result
@@ -95,13 +97,13 @@ module _ (work : List ℕ) (k j place : ℕ) (result : List ℕ) (e : place ≡ 
         let q : x ≡ j = omega arith in
         let t = subst (λ (z : ℕ). RowStands r z result) q s in
         subst (λ (z : Row). RowStands z x result) (sym (patch-other (imagesIn work k n) r (λ u. h (ap (byteAt result) e ∙ kind-byte r j result t ∙ u)))) s;
-    kept = record { before = λ p l. refl; after = λ p l. refl };
+    kept = kept-none (rowOffset j) (rowOffset (suc j)) result;
   }
 
 -- ---- the loop
 
 pub patch-start : (work : List ℕ) (k : ℕ) (result : List ℕ) → NextsPatched work k 0 0 result result
-patch-start work k result = record { patched = λ n few x r a b nb s. absurd (omega arith); kept = record { before = λ p l. refl; after = λ p l. refl } }
+patch-start work k result = record { patched = λ n few x r a b nb s. absurd (omega arith); kept = kept-none (rowOffset 0) (rowOffset 0) result }
 
 module _ (work : List ℕ) (k j : ℕ) (result₀ result : List ℕ) (P : NextsPatched work k 0 j result₀ result) where
   -- Row j is still as it was.
@@ -122,5 +124,5 @@ module _ (work : List ℕ) (k j : ℕ) (result₀ result : List ℕ) (P : NextsP
             (λ q.
             let t = subst (λ (z : ℕ). RowStands r z result₀) q s in
             subst (λ (z : ℕ). RowStands (patchNext (imagesIn work k n) r) z result′) (sym q) (Q .patched n few j r (omega arith) (omega arith) nb (λ d h. P .kept .after (rowOffset j + d) (omega arith) ∙ t d h)));
-        kept = record { before = λ p l. Q .kept .before p (omega arith) ∙ P .kept .before p l; after = λ p l. Q .kept .after p l ∙ P .kept .after p (omega arith) };
+        kept = kept-join (rowOffset 0) (rowOffset (suc j)) result₀ result result′ (P .kept) (Q .kept) (omega arith) (omega arith) (omega arith) (omega arith);
       }

@@ -7,7 +7,9 @@ use native.Mathlib.Omega.{arith}
 use lib.ListN.{length, length-append}
 use lib.Seq.{sets}
 use Rattle.memory.specs.Fields.{u16Bytes}
+use Rattle.memory.specs.Frames.{KeptOutside}
 use Rattle.memory.proofs.TestLaws.{last-or}
+use Rattle.memory.proofs.FrameLaws.{kept-none, kept-wider, kept-join, kept-sets}
 use Rattle.ternary.specs.Ternary.{Ternary}
 use Rattle.netlist.specs.Limits.{mostRows, mostPhases, mostOriginalRows}
 use Rattle.netlist.specs.Rows.{Row, constant, encodeRow, rowAt}
@@ -15,13 +17,14 @@ use Rattle.netlist.specs.FileFormat.{rowOffset, fieldBytes, netlistOf}
 use Rattle.abstraction.specs.GateMaking.{Image, existing, newRow, Unrolling, addImage}
 use Rattle.abstraction.specs.Unrolling.{rowImage, imageAt, unrollPhase, unrollPhases}
 use Rattle.blockfile.specs.RowsStand.{RowsStand}
+use Rattle.blockfile.proofs.StandLaws.{row-room, stand-more}
 use Rattle.gates.specs.declared.MadeRow.{MadeRow}
 use Rattle.gates.specs.declared.MadeImage.{MadeImage}
 use Rattle.gates.specs.declared.MadeImage.the-variants.{Kept, Fresh}
 use Rattle.gates.specs.ImageCode.{imageCode}
 use Rattle.lasso_finder.specs.WorkMap.{knownPlace, knownIn}
-use Rattle.fold.specs.UnrollMap.{Original, Room, imagePlace, imagesEnd, imagesIn, KeptFrom, KeptOutside, fieldsMade, literalMade, ImagePlaced, Placed, unrolledTo, UnderWay}
-use Rattle.fold.proofs.StoredBytes.{sets-before, sets-after, images-kept, images-more, row-room, stand-more}
+use Rattle.fold.specs.UnrollMap.{Original, Room, imagePlace, imagesEnd, imagesIn, fieldsMade, literalMade, ImagePlaced, Placed, unrolledTo, UnderWay}
+use Rattle.fold.proofs.StoredBytes.{images-kept, images-more}
 use Rattle.fold.proofs.UnrollFacts.{image-first, made-few}
 
 -- ---- one image
@@ -37,8 +40,7 @@ module _ (image : MadeImage) (m p place : ℕ) (result work work′ : List ℕ) 
 -- Of `work` only the literal's bytes change.
 literal-frame : (image : MadeImage) (m place r : ℕ) (result work result′ work′ : List ℕ) → ImagePlaced image m place result work result′ work′ r → KeptOutside place (place + 2) work work′
 literal-frame image m place r result work result′ work′ I =
-    let v = u16Bytes (literalMade m image) in
-    record { before = λ p h. rw (I .literal) (sets-before v work place p h); after = λ p h. rw (I .literal) (sets-after v work place p h) }
+    rw (I .literal) (kept-sets place (place + 2) (u16Bytes (literalMade m image)) work place (omega arith) (omega arith))
 
 -- The model adds the image, too.
 placed-more : (q : Unrolling) (y : Image) (k i m r : ℕ) (result work result′ work′ : List ℕ) → Room result work → k < mostPhases → i < mostOriginalRows → m < mostRows → ImagePlaced (imageCode y) m (imagePlace k i) result work result′ work′ r
@@ -59,10 +61,10 @@ placed-more q (newRow f b) k i m r result work result′ work′ R kb ib mb I P 
     }
 
 -- What is known of the rows stands behind the images.
-pub known-same : (w w′ : List ℕ) → KeptFrom imagesEnd w w′ → knownIn w′ ≡ knownIn w
-known-same w w′ f = fun-ext (λ i. fun-ext (λ k.
-    let a = f (knownPlace i) (omega arith) in
-    let b = f (knownPlace i + 1) (omega arith) in
+pub known-same : (w w′ : List ℕ) → KeptOutside 0 imagesEnd w w′ → knownIn w′ ≡ knownIn w
+known-same w w′ K = fun-ext (λ i. fun-ext (λ k.
+    let a = K .after (knownPlace i) (omega arith) in
+    let b = K .after (knownPlace i + 1) (omega arith) in
     rw (a, b)))
 
 -- ---- one row
@@ -99,11 +101,11 @@ module _ (f : List ℕ) (k i m : ℕ) (result work : List ℕ) (O : Original f) 
 
   pub row-done : (image : MadeImage) (result′ work′ : List ℕ) (r : ℕ) → Room result work
       → image ≡ imageCode (rowImage (knownIn work i k) k (imagesIn work (k - 1) (length (netlistOf f))) (imagesIn work k i) (rowAt (netlistOf f) i)) → ImagePlaced image m (imagePlace k i) result work result′ work′ r
-      → UnderWay (knownIn work) (netlistOf f) k (suc i) result′ work′ r × KeptFrom imagesEnd work work′
+      → UnderWay (knownIn work) (netlistOf f) k (suc i) result′ work′ r × KeptOutside 0 imagesEnd work work′
   row-done image result′ work′ r R e I =
       let few = O .accepted .small in (
         row-again (knownIn work) (netlistOf f) k i result work m U image result′ work′ r e R kb ib few row-fits I,
-        λ p h. literal-frame image m (imagePlace k i) r result work result′ work′ I .after p (omega arith),
+        kept-wider 0 imagesEnd (literal-frame image m (imagePlace k i) r result work result′ work′ I) (omega arith) (omega arith),
       )
 
 -- ---- the loops
@@ -111,26 +113,24 @@ module _ (f : List ℕ) (k i m : ℕ) (result work : List ℕ) (O : Original f) 
 -- In a loop over rows or phases that began with result₀ and work₀: before row i of phase k.
 pub record Going (f : List ℕ) (result₀ work₀ : List ℕ) (k i : ℕ) (result work : List ℕ) (m : ℕ) : Type 0 where
   pub same-result : length result ≡ length result₀
-  pub same-work : length work ≡ length work₀
-  pub kept : KeptFrom imagesEnd work₀ work
+  pub kept : KeptOutside 0 imagesEnd work₀ work
   pub under : UnderWay (knownIn work₀) (netlistOf f) k i result work m
 
 pub going-start : (f : List ℕ) (k i : ℕ) (result work : List ℕ) (m : ℕ) → UnderWay (knownIn work) (netlistOf f) k i result work m → Going f result work k i result work m
-going-start f k i result work m U = record { same-result = refl; same-work = refl; kept = λ p h. refl; under = U }
+going-start f k i result work m U = record { same-result = refl; kept = kept-none 0 imagesEnd work; under = U }
 
 module _ (f : List ℕ) (result₀ work₀ : List ℕ) (k i : ℕ) (result work : List ℕ) (m : ℕ) (G : Going f result₀ work₀ k i result work m) where
   pub going-room : Room result₀ work₀ → Room result work
-  going-room R = record { result-room = omega (arith, R .result-room, G .same-result); work-room = omega (arith, R .work-room, G .same-work) }
+  going-room R = record { result-room = omega (arith, R .result-room, G .same-result); work-room = omega (arith, R .work-room, G .kept .long) }
 
   pub going-under : UnderWay (knownIn work) (netlistOf f) k i result work m
   going-under = subst (λ (z : ℕ → ℕ → Ternary). UnderWay z (netlistOf f) k i result work m) (sym (known-same work₀ work (G .kept))) (G .under)
 
-  pub going-more : (k′ i′ : ℕ) (result′ work′ : List ℕ) (m′ : ℕ) → length result′ ≡ length result → length work′ ≡ length work → UnderWay (knownIn work) (netlistOf f) k′ i′ result′ work′ m′ × KeptFrom imagesEnd work work′
+  pub going-more : (k′ i′ : ℕ) (result′ work′ : List ℕ) (m′ : ℕ) → length result′ ≡ length result → UnderWay (knownIn work) (netlistOf f) k′ i′ result′ work′ m′ × KeptOutside 0 imagesEnd work work′
       → Going f result₀ work₀ k′ i′ result′ work′ m′
-  going-more k′ i′ result′ work′ m′ a b u = record {
+  going-more k′ i′ result′ work′ m′ a u = record {
     same-result = a ∙ G .same-result;
-    same-work = b ∙ G .same-work;
-    kept = λ p h. u .1 p h ∙ G .kept p h;
+    kept = kept-join 0 imagesEnd work₀ work work′ (G .kept) (u .1) (omega arith) (omega arith) (omega arith) (omega arith);
     under = subst (λ (z : ℕ → ℕ → Ternary). UnderWay z (netlistOf f) k′ i′ result′ work′ m′) (known-same work₀ work (G .kept)) (u .0);
   }
 

@@ -10,6 +10,7 @@ use lib.ListN.{length, getD, length-append, length-map, List·getD-append}
 use lib.Seq.{getD-at}
 use Rattle.memory.specs.Lists.{joinBelow}
 use Rattle.memory.proofs.TestLaws.{last-or}
+use Rattle.memory.proofs.ListLaws.{join-cong}
 use Rattle.ternary.specs.Ternary.{Ternary, lo, hi, X}
 use Rattle.netlist.specs.Limits.{mostRows, mostPhases, mostOriginalRows}
 use Rattle.netlist.specs.Rows.{Row, constant, input, register, andGate, xorGate, muxGate, output, rowAt, kindOf, phaseOf, hasName, isRegister}
@@ -20,7 +21,6 @@ use Rattle.abstraction.specs.Unrolling.{registerImage, rowImage, imageAt, patch
 use Rattle.abstraction.proofs.BuilderLaws.{ImageOver, Added, none, one, add-rows, added-length}
 use Rattle.abstraction.proofs.UnrollLaws.{unroll-keeps}
 use Rattle.abstraction.proofs.SizeBound.{makes, gives, total, total-one, whole-bound}
-use Rattle.fold.proofs.StoredBytes.{join-cong}
 
 -- ---- phase 0
 

@@ -8,6 +8,7 @@ use native.Mathlib.Decide.{decLt}
 use lib.ListN.{length, getD, length-append, length-map, List·getD-map}
 use Rattle.memory.specs.Lists.{joinBelow}
 use Rattle.memory.specs.Fields.{byteAt}
+use Rattle.memory.proofs.ListLaws.{join-cong}
 use Rattle.ternary.specs.Ternary.{Ternary}
 use Rattle.netlist.specs.Limits.{mostRows, mostPhases}
 use Rattle.netlist.specs.Rows.{Row, constant, rowAt}
@@ -15,7 +16,6 @@ use Rattle.netlist.specs.FileFormat.{rowOffset, rowBytes, netlistOf}
 use Rattle.abstraction.specs.Unrolling.{patchNext, phaseOutput, unrollPhase, unrollPhases, phaseOutputs, unrolledNetlist}
 use Rattle.blockfile.specs.RowsStand.{RowsStand}
 use Rattle.fold.specs.UnrollMap.{Original, imagesIn, UnderWay, RowStands, NextFits, NextsPatched, Appended, outputsIn}
-use Rattle.fold.proofs.StoredBytes.{join-cong}
 use Rattle.fold.proofs.UnrollFacts.{netlist-clock, netlist-few, new-registers}
 use Rattle.fold.proofs.PatchLaws.{next-fits, patch-other}
 

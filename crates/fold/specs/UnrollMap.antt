@@ -1,5 +1,5 @@
 -- The unrolling in memory: the rows made stand in `result`, the image literals in `work`.
--- Interface: Original (what is asked of the file), imagesEnd, KeptFrom; the rest is between the steps.
+-- Interface: Original (what is asked of the file), imagesEnd; the rest is between the steps.
 -- Assumes nothing.
 use Prim.Native.Nat.{ℕ, suc, _+_, _*_, _<_, _≤_, _/_, _^_}
 use mathlib.Core.Path.{_≡_}
@@ -8,6 +8,7 @@ use lib.ListN.{length, getD}
 use lib.Seq.{sets}
 use Rattle.memory.specs.Lists.{tabulate, joinBelow}
 use Rattle.memory.specs.Fields.{byteAt, u16At, u16Bytes}
+use Rattle.memory.specs.Frames.{KeptOutside}
 use Rattle.ternary.specs.Ternary.{Ternary}
 use Rattle.netlist.specs.Limits.{mostPhases, mostOriginalRows, foldResultBytes, foldWorkBytes}
 use Rattle.netlist.specs.Rows.{Row, RowFields, decodeRow, rowAt}
@@ -43,14 +44,6 @@ imagesEnd = imagePlace mostPhases 0
 -- The images of the first n rows in phase k.
 unfoldable pub imagesIn : List ℕ → ℕ → ℕ → List ℕ
 imagesIn w k n = tabulate n (λ i. u16At w (imagePlace k i))
-
--- The bytes from hi on are unchanged; and those before lo.
-abbrev pub KeptFrom : ℕ → List ℕ → List ℕ → Type 0
-KeptFrom hi w w′ = (p : ℕ) → hi ≤ p → byteAt w′ p ≡ byteAt w p
-
-pub record KeptOutside (lo hi : ℕ) (w w′ : List ℕ) : Type 0 where
-  pub before : (p : ℕ) → p < lo → byteAt w′ p ≡ byteAt w p
-  pub after : KeptFrom hi w w′
 
 -- ---- an image is placed
 

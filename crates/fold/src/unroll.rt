@@ -5,6 +5,7 @@ ghost use lib.ListN.{length};
 ghost use lib.Seq.{sets};
 ghost use Rattle.memory.specs.Lists.{joinBelow};
 ghost use Rattle.memory.specs.Fields.{u16At};
+ghost use Rattle.memory.specs.Frames.{KeptOutside};
 ghost use Rattle.ternary.specs.Ternary.{Ternary, X};
 ghost use Rattle.netlist.specs.Limits.{mostRows, mostPhases, mostOriginalRows, foldResultBytes, foldWorkBytes};
 ghost use Rattle.netlist.specs.Rows.{rowAt, input};
@@ -21,7 +22,6 @@ ghost use Rattle.fold.specs.UnrollMap.{
   imagePlace,
   imagesEnd,
   imagesIn,
-  KeptFrom,
   fieldsMade,
   ImagePlaced,
   UnderWay,
@@ -210,7 +210,7 @@ fn unroll_row(
     requires { ⌜ Original (now file) × (i < length (netlistOf (now file))) × (k < mostPhases) ⌝ }
     requires { ⌜ Room (now result) (now work) ⌝ }
     requires { ⌜ UnderWay (knownIn (now work)) (netlistOf (now file)) k i (now result) (now work) m ⌝ }
-    ensures { λ r. ⌜ UnderWay (knownIn (now (work .entry))) (netlistOf (now (file .entry))) k (suc i) (now (result .exit)) (now (work .exit)) r × KeptFrom imagesEnd (now (work .entry)) (now (work .exit)) ⌝ }
+    ensures { λ r. ⌜ UnderWay (knownIn (now (work .entry))) (netlistOf (now (file .entry))) k (suc i) (now (result .exit)) (now (work .exit)) r × KeptOutside 0 imagesEnd (now (work .entry)) (now (work .exit)) ⌝ }
 {
     let image = row_image(file, work, k, i);
     place_image(result, work, k, i, m, image)
@@ -228,7 +228,7 @@ fn unroll_phase(
     requires { ⌜ Original (now file) × (rows ≡ length (netlistOf (now file))) × (k < mostPhases) ⌝ }
     requires { ⌜ Room (now result) (now work) ⌝ }
     requires { ⌜ UnderWay (knownIn (now work)) (netlistOf (now file)) k 0 (now result) (now work) count ⌝ }
-    ensures { λ r. ⌜ UnderWay (knownIn (now (work .entry))) (netlistOf (now (file .entry))) (suc k) 0 (now (result .exit)) (now (work .exit)) r × KeptFrom imagesEnd (now (work .entry)) (now (work .exit)) ⌝ }
+    ensures { λ r. ⌜ UnderWay (knownIn (now (work .entry))) (netlistOf (now (file .entry))) (suc k) 0 (now (result .exit)) (now (work .exit)) r × KeptOutside 0 imagesEnd (now (work .entry)) (now (work .exit)) ⌝ }
 {
     let mut m = count;
     let mut i = 0;
@@ -249,7 +249,7 @@ fn unroll_phases(
 ) -> usize
     requires { ⌜ Original (now file) × (rows ≡ length (netlistOf (now file))) × (phases ≤ mostPhases) ⌝ }
     requires { ⌜ Room (now result) (now work) ⌝ }
-    ensures { λ r. ⌜ UnderWay (knownIn (now (work .entry))) (netlistOf (now (file .entry))) phases 0 (now (result .exit)) (now (work .exit)) r × KeptFrom imagesEnd (now (work .entry)) (now (work .exit)) ⌝ }
+    ensures { λ r. ⌜ UnderWay (knownIn (now (work .entry))) (netlistOf (now (file .entry))) phases 0 (now (result .exit)) (now (work .exit)) r × KeptOutside 0 imagesEnd (now (work .entry)) (now (work .exit)) ⌝ }
 {
     let first = MadeRow {
         kind: 0,
@@ -381,7 +381,7 @@ pub fn unroll(file: &[u8], rows: usize, phases: usize, result: &mut [u8], work: 
     requires { ⌜ Original (now file) × (rows ≡ length (netlistOf (now file))) × (1 ≤ phases) × (phases ≤ mostPhases) ⌝ }
     requires { ⌜ Room (now result) (now work) ⌝ }
     ensures { λ r. ⌜ ((clock : ℕ → ℕ → Ternary) → ((i k : ℕ) → i < rows → k < phases → knownIn (now (work .entry)) i k ≡ clock i k) → (r ≡ length (unrolledNetlist clock (netlistOf (now (file .entry))) phases)) × RowsStand (unrolledNetlist clock (netlistOf (now (file .entry))) phases) (now (result .exit))) ⌝ }
-    ensures { λ _. ⌜ KeptFrom imagesEnd (now (work .entry)) (now (work .exit)) ⌝ }
+    ensures { λ _. ⌜ KeptOutside 0 imagesEnd (now (work .entry)) (now (work .exit)) ⌝ }
 {
     let made = unroll_phases(file, rows, phases, result, work);
     let last = phases - 1;

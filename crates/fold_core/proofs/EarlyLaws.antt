@@ -11,7 +11,7 @@ use lib.Dec.{eqb, ltb, leb}
 use borrow.Author.Tests.{ltb-true, lt-ltb, le-ltb, le-leb, lt-leb, ne-eqb}
 use borrow.Author.Count.{below-more}
 use Rattle.memory.specs.Lists.{firstFrom, countIf}
-use Rattle.memory.proofs.ListLaws.{first-is, first-none}
+use Rattle.memory.proofs.ListLaws.{first-is, first-none, first-found}
 use Rattle.netlist.specs.Limits.{mostPhases, mostOriginalRows, mostOriginalRegisters, foldResultBytes, foldWorkBytes, foldClockEntries}
 use Rattle.netlist.specs.Rows.{Row, RowFields, rowFromFields, decodeRow, rowAt, phaseOf, isRegister}
 use Rattle.netlist.specs.FileFormat.{readFields, netlistOf}
@@ -28,7 +28,6 @@ use Rattle.accept.specs.declared.Acceptance.{Acceptance}
 use Rattle.accept.specs.declared.Acceptance.the-variants.{Accepted, Refused}
 use Rattle.accept.specs.Refusals.{acceptRefusal}
 use Rattle.accept.proofs.RefusalLaws.{number-positive, accepted-none, refused-is}
-use Rattle.lasso_finder.proofs.SearchLaws.{first-found}
 use Rattle.fold_core.specs.declared.early.Asked.{Asked}
 use Rattle.fold_core.specs.declared.early.Asked.the-variants.{Passed, Stopped}
 use Rattle.fold_core.specs.declared.FoldRefusal.{FoldRefusal}

@@ -1,19 +1,18 @@
 -- The fold of a file that passed questions 1 to 15: what its stages ask, and that the answer is the model's.
 -- Assumes nothing.
-use Prim.Native.Nat.{ℕ, _+_, _<_, _≤_}
+use Prim.Native.Nat.{ℕ, _≤_}
 use mathlib.Core.Path.{_≡_, refl, sym, ap, _∙_, subst}
-use mathlib.Core.List.{List, [], _∷_}
+use mathlib.Core.List.{List, _∷_}
 use mathlib.Core.Option.{Option, none, some}
 use native.Mathlib.Omega.{arith}
 use lib.ListN.{length}
 use borrow.Author.Tests.{leb-true}
-use Rattle.memory.specs.Fields.{byteAt}
+use Rattle.memory.proofs.ListLaws.{tabulate-cong}
 use Rattle.netlist.specs.Limits.{mostPhases, mostFoldedRows, foldClockEntries}
 use Rattle.netlist.specs.Rows.{Row}
 use Rattle.netlist.specs.FileFormat.{netlistOf}
 use Rattle.lasso.specs.LassoSearch.{Lasso, findLasso}
 use Rattle.lasso.specs.Generators.{periodsOf, usedCount, clockValue}
-use Rattle.lasso.specs.ClockEntries.{ClockEntry}
 use Rattle.lasso.proofs.LassoLaws.{lasso-is}
 use Rattle.lasso.proofs.PhaseCountLaws.{phases-pos, phases-le}
 use Rattle.lasso.proofs.ClockLaws.{used-le}
@@ -24,14 +23,14 @@ use Rattle.questions.proofs.QuestionLaws.{NoneRefuses, all-none, number-none, q
 use Rattle.questions.proofs.PlainWords.{MemoryRight, foldMemoryRight-iff}
 use Rattle.questions.proofs.AcceptedFiles.{FileRight, OriginalRight, file-right, original-right}
 use Rattle.lasso_finder.specs.StateMap.{Ready}
-use Rattle.lasso_finder.specs.WorkMap.{entryPlace, entryIn, entriesIn}
+use Rattle.lasso_finder.specs.WorkMap.{entryIn, entriesIn}
 use Rattle.lasso_finder.specs.Outcome.{phasesOf, clocksOf, analysisOf, Analysed}
 use Rattle.lasso_finder.specs.declared.Analysis.{Analysis}
 use Rattle.lasso_finder.specs.declared.Analysis.the-variants as analysis
 use Rattle.lasso_finder.specs.declared.Clocks.{Clocks}
 use Rattle.lasso_finder.proofs.ReadyLaws.{ready-of}
+use Rattle.lasso_finder.proofs.EntryLaws.{entry-kept}
 use Rattle.fold.specs.UnrollMap.{Original, Room}
-use Rattle.fold.proofs.StoredBytes.{join-cong}
 use Rattle.fold_core.specs.FoldAnswers.{numbersOf, entriesOf, resultOf}
 use Rattle.fold_core.specs.FoldParts.{earlyRefusal, FoldReady, foldingOf, FoldMade}
 use Rattle.fold_core.specs.FoldStages.{EntriesKept, FoldWritten, NumbersFit, numbersFrom}
@@ -41,23 +40,8 @@ use Rattle.fold_core.specs.declared.Folding.the-variants.{Done, Refused}
 
 -- ---- the entries that stay
 
-entry-same : (w w′ : List ℕ) (e : ℕ) → ((x : ℕ) → entryPlace e ≤ x → x < entryPlace e + 8 → byteAt w′ x ≡ byteAt w x) → entryIn w′ e ≡ entryIn w e
-entry-same w w′ e s =
-    let p = entryPlace e in
-    rw (
-      s p (omega arith) (omega arith),
-      s (p + 1) (omega arith) (omega arith),
-      s (p + 2) (omega arith) (omega arith),
-      s (p + 3) (omega arith) (omega arith),
-      s (p + 4) (omega arith) (omega arith),
-      s (p + 4 + 1) (omega arith) (omega arith),
-      s (p + 4 + 2) (omega arith) (omega arith),
-      s (p + 4 + 2 + 1) (omega arith) (omega arith),
-    )
-    refl
-
 entries-same : (w w′ : List ℕ) (n : ℕ) → n ≤ foldClockEntries → EntriesKept w w′ → entriesIn w′ n ≡ entriesIn w n
-entries-same w w′ n h k = join-cong n (λ e. entryIn w′ e ∷ []) (λ e. entryIn w e ∷ []) (λ e l. ap (λ (x : ClockEntry). x ∷ []) (entry-same w w′ e (λ x a b. k x (omega arith) (omega arith))))
+entries-same w w′ n h k = tabulate-cong n (entryIn w′) (entryIn w) (λ e l. entry-kept w w′ e (λ x a b. k x (omega arith) (omega arith)))
 
 -- ---- what questions 1 to 15 say
 

@@ -6,6 +6,7 @@ use mathlib.Core.List.{List, _++_}
 use native.Mathlib.Omega.{arith}
 use lib.ListN.{length, replicate}
 use Rattle.memory.specs.Fields.{IsBytes}
+use Rattle.memory.specs.Frames.{KeptOutside}
 use Rattle.ternary.specs.Ternary.{Ternary}
 use Rattle.netlist.specs.Limits.{mostRows, mostPhases, mostFoldedRows, foldResultBytes}
 use Rattle.netlist.specs.Rows.{Row}
@@ -17,9 +18,9 @@ use Rattle.abstraction.specs.Fold.{foldWith}
 use Rattle.abstraction.proofs.SizeBound.{fold-fits}
 use Rattle.blockfile.specs.RowsStand.{RowsStand}
 use Rattle.compaction.specs.Compactable.{Compactable}
-use Rattle.compaction.specs.Slots.{slotsStart, slotsEnd, SameOutside}
+use Rattle.compaction.specs.Slots.{slotsStart, slotsEnd}
 use Rattle.lasso_finder.specs.WorkMap.{knownIn}
-use Rattle.fold.specs.UnrollMap.{Original, imagesEnd, KeptFrom}
+use Rattle.fold.specs.UnrollMap.{Original, imagesEnd}
 use Rattle.fold.proofs.UnrollFacts.{netlist-few}
 use Rattle.fold_core.specs.FoldStages.{KnownAs, FoldWritten}
 use Rattle.fold_core.proofs.UnrolledFits.{unrolled-compactable}
@@ -51,7 +52,7 @@ module _ {file : List ℕ} (O : Original file) {n : ℕ} (count : n ≡ length (
 
         module _ {result result₃ : List ℕ} (work₁ : List ℕ) {work₂ : List ℕ} (same : length result₂ ≡ length result)
             (sealed : (rs : List Row) → length rs ≡ kept → RowsStand rs result₂ → result₃ ≡ fileOf rs ++ replicate (length result₂ - 512 * blocksFor kept) 0)
-            (images : KeptFrom imagesEnd work work₁) (slots : SameOutside slotsStart slotsEnd work₁ work₂)
+            (images : KeptOutside 0 imagesEnd work work₁) (slots : KeptOutside slotsStart slotsEnd work₁ work₂)
           where
             pub fold-written : FoldWritten (netlistOf file) N result result₃ work work₂ kept
             fold-written = record {
@@ -62,5 +63,5 @@ module _ {file : List ℕ} (O : Original file) {n : ℕ} (count : n ≡ length (
                   let e : length result₂ - 512 * blocksFor kept ≡ length result - length (fileOf new) = omega (arith, file-length new, ap blocksFor (q .0)) in
                   sealed new (sym (q .0)) (q .1) ∙ ap (λ (z : ℕ). fileOf new ++ replicate z 0) e;
               few = kept-few;
-              kept = λ x h l. slots x .0 l ∙ images x h;
+              kept = λ x h l. slots .before x l ∙ images .after x h;
             }

@@ -7,6 +7,8 @@ use mathlib.Core.Option.{Option, none, some}
 use native.Mathlib.Omega.{arith}
 use lib.ListN.{length}
 use Rattle.memory.specs.Fields.{byteAt}
+use Rattle.memory.specs.Frames.{KeptOutside}
+use Rattle.memory.proofs.FrameLaws.{kept-wider, kept-join}
 use Rattle.netlist.specs.Limits.{mostPhases, mostOriginalRows, foldWorkBytes}
 use Rattle.netlist.specs.Rows.{Row}
 use Rattle.lasso.specs.LassoSearch.{Lasso, findLasso}
@@ -14,14 +16,13 @@ use Rattle.lasso.specs.Generators.{periodsOf, usedCount, phaseCount, clockValue
 use Rattle.lasso.specs.ClockEntries.{clockEntries}
 use Rattle.lasso.proofs.PhaseCountLaws.{phases-pos, phases-le}
 use Rattle.lasso_finder.specs.WorkMap.{knownPlace, knownIn, entriesIn}
-use Rattle.lasso_finder.specs.StateMap.{statePlace, valuePlace, Kept}
+use Rattle.lasso_finder.specs.StateMap.{statePlace, valuePlace}
 use Rattle.lasso_finder.specs.Outcome.{WorkReady, phasesOf, analysisOf, Analysed}
 use Rattle.lasso_finder.specs.Stages.{repeatOf, LassoDone, lassoOf, lassoIn, Lassoed, PeriodPart, periodBytes, KnownPart, KnownRegisters, EntryPart}
 use Rattle.lasso_finder.specs.declared.search.Repeat.{Repeat}
 use Rattle.lasso_finder.specs.declared.search.Repeat.the-variants.{Found as AtState, Never}
 use Rattle.lasso_finder.specs.declared.Analysis.{Analysis}
 use Rattle.lasso_finder.specs.declared.Analysis.the-variants.{NoLasso, Found}
-use Rattle.lasso_finder.proofs.FrameLaws.{kept-wider, kept-join}
 use Rattle.lasso_finder.proofs.CountLaws.{phases-same}
 use Rattle.lasso_finder.proofs.KnownLaws.{known-is}
 use Rattle.lasso_finder.proofs.EntryLaws.{known-registers, entries-are, entries-number}
@@ -71,7 +72,7 @@ module _ {rows : List Row} {w w₁ : List ℕ} {r : Repeat} (L : LassoDone rows 
         let room = ready .room in
         record { found = is-some; room = omega arith; states = L .states (lassoIn rows) is-some }
 
-    module _ {n : ℕ} (count : n ≡ length rows) {w₂ : List ℕ} {wish : ℕ} (K₂ : Kept (valuePlace 0) (valuePlace mostOriginalRows) w₁ w₂) (P₂ : PeriodPart rows w₂ n) {phases : ℕ} (phases-are : phases ≡ phaseCount wish (periodBytes w₂ n)) (small : wish ≤ mostPhases) where
+    module _ {n : ℕ} (count : n ≡ length rows) {w₂ : List ℕ} {wish : ℕ} (K₂ : KeptOutside (valuePlace 0) (valuePlace mostOriginalRows) w₁ w₂) (P₂ : PeriodPart rows w₂ n) {phases : ℕ} (phases-are : phases ≡ phaseCount wish (periodBytes w₂ n)) (small : wish ≤ mostPhases) where
       phases-is : phases ≡ phaseCount wish (periodsOf rows (lassoIn rows))
       phases-is =
           phases-are ∙ ap (λ (k : ℕ). phaseCount wish (periodBytes w₂ k)) count
@@ -83,7 +84,7 @@ module _ {rows : List Row} {w w₁ : List ℕ} {r : Repeat} (L : LassoDone rows 
       pub phases-to : phases ≤ mostPhases
       phases-to = rw phases-is (phases-le wish (periodsOf rows (lassoIn rows)) small)
 
-      module _ {w₃ : List ℕ} (K₃ : Kept (knownPlace 0) (knownPlace mostOriginalRows) w₂ w₃) (P₃ : KnownPart rows phases w₃ n) where
+      module _ {w₃ : List ℕ} (K₃ : KeptOutside (knownPlace 0) (knownPlace mostOriginalRows) w₂ w₃) (P₃ : KnownPart rows phases w₃ n) where
         part : KnownPart rows phases w₃ (length rows)
         part = subst (KnownPart rows phases w₃) count P₃
 
@@ -91,7 +92,7 @@ module _ {rows : List Row} {w w₁ : List ℕ} {r : Repeat} (L : LassoDone rows 
         entries-ask = (P₃ .part .lassoed .room, known-registers phases-from phases-to part)
 
         module _ {w₄ : List ℕ} {used : ℕ} (E : EntryPart rows w₃ w₄ n used) where
-          all-kept : Kept (statePlace 0) (knownPlace mostOriginalRows) w w₄
+          all-kept : KeptOutside (statePlace 0) (knownPlace mostOriginalRows) w w₄
           all-kept =
               let a = kept-join (statePlace 0) (knownPlace mostOriginalRows) w w₁ w₂ (L .kept) K₂ (omega arith) (omega arith) (omega arith) (omega arith) in
               let b = kept-join (statePlace 0) (knownPlace mostOriginalRows) w w₂ w₃ a K₃ (omega arith) (omega arith) (omega arith) (omega arith) in
@@ -100,8 +101,8 @@ module _ {rows : List Row} {w w₁ : List ℕ} {r : Repeat} (L : LassoDone rows 
           -- The entries stand before the known bytes.
           known-after : (i k : ℕ) → i < length rows → k < phases → knownIn w₄ i k ≡ clockValue rows (periodsOf rows (lassoIn rows)) phases i k
           known-after i k h l =
-              let a : byteAt w₄ (knownPlace i) ≡ byteAt w₃ (knownPlace i) = E .kept .over (knownPlace i) (omega arith) in
-              let b : byteAt w₄ (knownPlace i + 1) ≡ byteAt w₃ (knownPlace i + 1) = E .kept .over (knownPlace i + 1) (omega arith) in
+              let a : byteAt w₄ (knownPlace i) ≡ byteAt w₃ (knownPlace i) = E .kept .after (knownPlace i) (omega arith) in
+              let b : byteAt w₄ (knownPlace i + 1) ≡ byteAt w₃ (knownPlace i + 1) = E .kept .after (knownPlace i + 1) (omega arith) in
               rw (a, b) (known-is (P₃ .part) h phases-from phases-to (part .known i h) k l)
 
           used-is : used ≡ usedCount (periodsOf rows (lassoIn rows)) phases

@@ -12,11 +12,12 @@ use lib.Dec.{eqb}
 use lib.Count.{ones, ones-step, ones-le}
 use lib.ListN.{length, set}
 use lib.Seq.{sets}
-use Rattle.memory.specs.Lists.{joinBelow, tabulate}
 use Rattle.memory.specs.Fields.{IsBytes, byteAt, u16Bytes, u32Bytes}
-use Rattle.memory.proofs.ListLaws.{tabulate-length}
+use Rattle.memory.specs.Frames.{KeptOutside}
+use Rattle.memory.proofs.ListLaws.{tabulate-length, join-cong, tabulate-cong}
 use Rattle.memory.proofs.FieldLaws.{u16-read, u32-read}
 use Rattle.memory.proofs.BufferLaws.{sets-join}
+use Rattle.memory.proofs.FrameLaws.{kept-none, kept-join, kept-sets, sets-at}
 use Rattle.netlist.specs.Limits.{mostPhases, foldWorkBytes, foldClockEntries}
 use Rattle.netlist.specs.Rows.{Row, rowAt, labelOf, isRegister, decodeRow}
 use Rattle.netlist.specs.FileFormat.{readFields, netlistOf}
@@ -28,9 +29,8 @@ use Rattle.lasso.proofs.GeneratorLaws.{periods-length}
 use Rattle.blockfile.specs.RowCode.{fieldsIn}
 use Rattle.blockfile.specs.declared.Fields.{Fields}
 use Rattle.lasso_finder.specs.WorkMap.{knownPlace, entryPlace, entryIn, entriesIn}
-use Rattle.lasso_finder.specs.StateMap.{Ready, Kept, registersBefore, AtRow}
+use Rattle.lasso_finder.specs.StateMap.{Ready, registersBefore, AtRow}
 use Rattle.lasso_finder.specs.Stages.{lassoIn, periodAt, knownBytes, KnownPart, entryBytes, KnownRegisters, EntryReady, entryPut, entryFrom, entriesFrom, EntryPart}
-use Rattle.lasso_finder.proofs.FrameLaws.{kept-none, kept-join, kept-sets, sets-at}
 use Rattle.lasso_finder.proofs.RegisterLaws.{before-step, before-lt, before-le}
 use Rattle.lasso_finder.proofs.StepLaws.{row-within, register-is, register-at}
 use Rattle.lasso_finder.proofs.KnownLaws.{known-first, is-register, positive}
@@ -76,31 +76,23 @@ entry-read w e label period word a b room =
     same : {l l′ p p′ x x′ n n′ : ℕ} → l ≡ l′ → p ≡ p′ → x ≡ x′ → n ≡ n′ → _≡_ {A = ClockEntry} (record { label = l; period = p; word = x; ones = n }) (record { label = l′; period = p′; word = x′; ones = n′ })
     same p q s t = cc (p, q, s, t)
 
--- Bytes behind it may change.
-entry-under : (w w′ : List ℕ) (x : ℕ) → ((y : ℕ) → y < entryPlace x + 8 → byteAt w′ y ≡ byteAt w y) → entryIn w′ x ≡ entryIn w x
-entry-under w w′ x s =
-    let p = entryPlace x in
+-- It is read from its eight bytes.
+pub entry-kept : (w w′ : List ℕ) (e : ℕ) → ((x : ℕ) → entryPlace e ≤ x → x < entryPlace e + 8 → byteAt w′ x ≡ byteAt w x) → entryIn w′ e ≡ entryIn w e
+entry-kept w w′ e s =
+    let p = entryPlace e in
     rw (
-      s p (omega arith),
-      s (p + 1) (omega arith),
-      s (p + 2) (omega arith),
-      s (p + 3) (omega arith),
-      s (p + 4) (omega arith),
-      s (p + 4 + 1) (omega arith),
-      s (p + 4 + 2) (omega arith),
-      s (p + 4 + 2 + 1) (omega arith),
+      s p (omega arith) (omega arith),
+      s (p + 1) (omega arith) (omega arith),
+      s (p + 2) (omega arith) (omega arith),
+      s (p + 3) (omega arith) (omega arith),
+      s (p + 4) (omega arith) (omega arith),
+      s (p + 4 + 1) (omega arith) (omega arith),
+      s (p + 4 + 2) (omega arith) (omega arith),
+      s (p + 4 + 2 + 1) (omega arith) (omega arith),
     )
     refl
 
 -- ---- lists of entries
-
-tabulate-same {ℓ} : {A : Type ℓ} (n : ℕ) (f g : ℕ → A) → ((i : ℕ) → i < n → f i ≡ g i) → tabulate n f ≡ tabulate n g
-tabulate-same zero f g h = refl
-tabulate-same (suc n) f g h = ap₂ (λ xs x. xs ++ (x ∷ [])) (tabulate-same n f g (λ i l. h i (omega arith))) (h n (omega arith))
-
-join-same {ℓ} : {A : Type ℓ} (n : ℕ) (f g : ℕ → List A) → ((i : ℕ) → i < n → f i ≡ g i) → joinBelow n f ≡ joinBelow n g
-join-same zero f g h = refl
-join-same (suc n) f g h = ap₂ _++_ (join-same n f g (λ i l. h i (omega arith))) (h n (omega arith))
 
 module _ (rows : List Row) (w : List ℕ) (i : ℕ) where
   from-none : byteAt w (knownPlace i) ≡ 0 → entriesFrom rows w (i + 1) ≡ entriesFrom rows w i
@@ -118,7 +110,7 @@ entries-start rows w = record { entries = refl; few = omega arith; kept = kept-n
 module _ {f : List ℕ} {n : ℕ} (R : Ready f n) {w w′ : List ℕ} {i e : ℕ} (within : i < n) (room : foldWorkBytes ≤ length w) (registers : KnownRegisters (netlistOf f) w) (E : EntryPart (netlistOf f) w w′ i e) where
   -- The known bytes stay.
   known-stay : (x : ℕ) → knownPlace 0 ≤ x → byteAt w′ x ≡ byteAt w x
-  known-stay x h = E .kept .over x (omega arith)
+  known-stay x h = E .kept .after x (omega arith)
 
   pub entry-asks : EntryReady f n w′ i e
   entry-asks =
@@ -160,8 +152,8 @@ module _ {f : List ℕ} {n : ℕ} (R : Ready f n) {w w′ : List ℕ} {i e : ℕ
         let b = before-le (netlistOf f) (i + 1) inside-next in
         let most = R .registers in
         let k = E .kept .long in
-        let K : Kept (entryPlace e) (entryPlace e + 8) w′ put = kept-sets (entryPlace e) (entryPlace e + 8) vs w′ (entryPlace e) (omega arith) (omega arith) in
-        let old : entriesIn put e ≡ entriesIn w′ e = tabulate-same e (entryIn put) (entryIn w′) (λ x b. entry-under w′ put x (λ y d. K .under y (omega arith))) in
+        let K : KeptOutside (entryPlace e) (entryPlace e + 8) w′ put = kept-sets (entryPlace e) (entryPlace e + 8) vs w′ (entryPlace e) (omega arith) (omega arith) in
+        let old : entriesIn put e ≡ entriesIn w′ e = tabulate-cong e (entryIn put) (entryIn w′) (λ x b. entry-kept w′ put x (λ y c d. K .before y (omega arith))) in
         let new : entryIn put e ≡ entryFrom (netlistOf f) w i =
         entry-read w′ e (labelOf (rowAt (netlistOf f) i)) (byteAt w (knownPlace i)) (byteAt w (knownPlace i + 1)) (file-labels f labels i inside) (bytes (knownPlace i + 1)) (omega arith) in
         record {
@@ -244,7 +236,7 @@ module _ {rows : List Row} {n : ℕ} {w : List ℕ} (from : 1 ≤ n) (to : n ≤
 
   entries-same : entriesFrom rows w (length rows) ≡ clockEntries rows (periodsOf rows (lassoIn rows)) n
   unfolding entriesFrom clockEntries
-  entries-same = join-same (length rows) _ _ (λ i h. entry-same i h (isUsed n (periodAt rows i)) refl)
+  entries-same = join-cong (length rows) _ _ (λ i h. entry-same i h (isUsed n (periodAt rows i)) refl)
 
   module _ {m : ℕ} (count : m ≡ length rows) {w′ : List ℕ} {r : ℕ} (E : EntryPart rows w w′ m r) where
     pub entries-are : entriesIn w′ r ≡ clockEntries rows (periodsOf rows (lassoIn rows)) n

@@ -15,8 +15,10 @@ use lib.ListN.{length}
 use lib.Seq.{sets}
 use Rattle.memory.specs.Lists.{countIf}
 use Rattle.memory.specs.Fields.{byteAt}
+use Rattle.memory.specs.Frames.{KeptOutside}
 use Rattle.memory.proofs.TestLaws.{and-true, last-or, cond-case}
 use Rattle.memory.proofs.ListLaws.{allBelow-at, tabulate-at}
+use Rattle.memory.proofs.FrameLaws.{kept-sets, sets-at}
 use Rattle.ternary.specs.Ternary.{Ternary, lo, hi, X, codeOf, valueOf, isKnown}
 use Rattle.ternary.proofs.RuleLaws.{value-of-code}
 use Rattle.netlist.specs.Limits.{mostPhases, mostOriginalRows, mostOriginalRegisters}
@@ -27,9 +29,8 @@ use Rattle.lasso.specs.ClockEntries.{bitOf, clockWord}
 use Rattle.lasso.proofs.GeneratorLaws.{period-other, period-is, generator-le}
 use Rattle.lasso.proofs.ClockLaws.{word-lt, word-bit}
 use Rattle.lasso_finder.specs.WorkMap.{knownPlace, knownIn}
-use Rattle.lasso_finder.specs.StateMap.{statePlace, valuePlace, Kept, codeAt, registersBefore, stateCodes, AtRow}
+use Rattle.lasso_finder.specs.StateMap.{statePlace, valuePlace, codeAt, registersBefore, stateCodes, AtRow}
 use Rattle.lasso_finder.specs.Stages.{lassoIn, smallPeriod, PeriodPart, phaseValue, WordReady, periodAt, knownBytes, KnownPart}
-use Rattle.lasso_finder.proofs.FrameLaws.{kept-sets, sets-at}
 use Rattle.lasso_finder.proofs.CodeLaws.{packed-kept}
 use Rattle.lasso_finder.proofs.RegisterLaws.{before-lt}
 use Rattle.lasso_finder.proofs.StepLaws.{place-early, place-within, row-small}
@@ -197,7 +198,7 @@ pub known-length : (rows : List Row) (n i : ℕ) → length (knownBytes rows n i
 known-length rows n i = cond-case (λ (vs : List ℕ). length vs ≡ 2) (isUsed n (periodAt rows i)) _ _ (λ _. refl) (λ _. refl)
 
 -- The periods stay while the known bytes change.
-periods-kept : {rows : List Row} {w w′ : List ℕ} → length rows ≤ mostOriginalRows → Kept (knownPlace 0) (knownPlace mostOriginalRows) w w′ → PeriodPart rows w (length rows) → PeriodPart rows w′ (length rows)
+periods-kept : {rows : List Row} {w w′ : List ℕ} → length rows ≤ mostOriginalRows → KeptOutside (knownPlace 0) (knownPlace mostOriginalRows) w w′ → PeriodPart rows w (length rows) → PeriodPart rows w′ (length rows)
 periods-kept {rows} {w} {w′} few K P =
     let short = lasso-short (P .lassoed) .0 in
     let room = P .lassoed .room in
@@ -207,19 +208,19 @@ periods-kept {rows} {w} {w′} few K P =
         room = omega (arith, K .long);
         states = λ t h.
             packed-kept w (statePlace t) (stateCodes rows t (length rows)) (P .lassoed .states t h) w′
-            (λ k l. let e = place-within t (omega arith) in let e1 = e .1 in K .under (statePlace t + k) (omega arith));
+            (λ k l. let e = place-within t (omega arith) in let e1 = e .1 in K .before (statePlace t + k) (omega arith));
       };
-      periods = λ x h. K .under (valuePlace x) (omega arith) ∙ P .periods x h;
+      periods = λ x h. K .before (valuePlace x) (omega arith) ∙ P .periods x h;
     }
 
 module _ {f : List ℕ} {m i j n : ℕ} (A : AtRow f m i j) {w : List ℕ} (P : KnownPart (netlistOf f) n w i) where
-  pub known-more : (w′ : List ℕ) → w′ ≡ sets w (knownPlace i) (knownBytes (netlistOf f) n i) → Kept (knownPlace 0) (knownPlace mostOriginalRows) w w′ × KnownPart (netlistOf f) n w′ (i + 1)
-  known-more w′ e = subst (λ (v : List ℕ). Kept (knownPlace 0) (knownPlace mostOriginalRows) w v × KnownPart (netlistOf f) n v (i + 1)) (sym e) (K, record { part = periods-kept (A .ready .accepted .small) K (P .part); known = bytes })
+  pub known-more : (w′ : List ℕ) → w′ ≡ sets w (knownPlace i) (knownBytes (netlistOf f) n i) → KeptOutside (knownPlace 0) (knownPlace mostOriginalRows) w w′ × KnownPart (netlistOf f) n w′ (i + 1)
+  known-more w′ e = subst (λ (v : List ℕ). KeptOutside (knownPlace 0) (knownPlace mostOriginalRows) w v × KnownPart (netlistOf f) n v (i + 1)) (sym e) (K, record { part = periods-kept (A .ready .accepted .small) K (P .part); known = bytes })
     where
       vs : List ℕ
       vs = knownBytes (netlistOf f) n i
 
-      K : Kept (knownPlace 0) (knownPlace mostOriginalRows) w (sets w (knownPlace i) (knownBytes (netlistOf f) n i))
+      K : KeptOutside (knownPlace 0) (knownPlace mostOriginalRows) w (sets w (knownPlace i) (knownBytes (netlistOf f) n i))
       K = let s = row-small A in let l = known-length (netlistOf f) n i in kept-sets (knownPlace 0) (knownPlace mostOriginalRows) (knownBytes (netlistOf f) n i) w (knownPlace i) (omega arith) (omega arith)
 
       bytes : (x : ℕ) → x < i + 1 → (d : ℕ) → d < 2 → byteAt (sets w (knownPlace i) (knownBytes (netlistOf f) n i)) (knownPlace x + d) ≡ byteAt (knownBytes (netlistOf f) n x) d
@@ -228,5 +229,5 @@ module _ {f : List ℕ} {m i j n : ℕ} (A : AtRow f m i j) {w : List ℕ} (P : 
           let s = row-small A in
           let room = P .part .lassoed .room in
           last-or x i (omega arith)
-          (λ b. kept-sets (knownPlace i) (knownPlace i + 2) (knownBytes (netlistOf f) n i) w (knownPlace i) (omega arith) (omega arith) .under (knownPlace x + d) (omega arith) ∙ P .known x b d l)
+          (λ b. kept-sets (knownPlace i) (knownPlace i + 2) (knownBytes (netlistOf f) n i) w (knownPlace i) (omega arith) (omega arith) .before (knownPlace x + d) (omega arith) ∙ P .known x b d l)
           (λ q. rw q (sets-at (knownBytes (netlistOf f) n i) w (knownPlace i) d (omega arith) (omega arith)))

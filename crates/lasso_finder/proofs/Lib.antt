@@ -1,5 +1,4 @@
 -- Laws of the lasso's stages in the work memory.
-pub mod FrameLaws
 pub mod CodeLaws
 pub mod RegisterLaws
 pub mod StateLaws

@@ -9,8 +9,10 @@ use native.Mathlib.Numerals.{add-one}
 use lib.ListN.{length, set}
 use Rattle.memory.specs.Lists.{countIf}
 use Rattle.memory.specs.Fields.{IsBytes, byteAt, u16At}
+use Rattle.memory.specs.Frames.{KeptOutside}
 use Rattle.memory.proofs.TestLaws.{last-or}
 use Rattle.memory.proofs.ListLaws.{tabulate-length}
+use Rattle.memory.proofs.FrameLaws.{kept-set, kept-join, u16-kept}
 use Rattle.ternary.specs.Ternary.{codeOf, valueOf}
 use Rattle.ternary.proofs.RuleLaws.{value-of-code}
 use Rattle.netlist.specs.Limits.{mostOriginalRows, mostOriginalRegisters, foldWorkBytes, lastState}
@@ -20,8 +22,7 @@ use Rattle.netlist.proofs.WellFormed.{AcceptedRows}
 use Rattle.netlist.proofs.SimulationLaws.{literal-cong}
 use Rattle.lasso.specs.Generators.{stateValue}
 use Rattle.lasso_finder.specs.WorkMap.{knownPlace}
-use Rattle.lasso_finder.specs.StateMap.{statePlace, nextPlace, Kept, stateBytes, Packed, registersBefore, nextOf, stateCodes, Stored, valueIn, stepValue, Valued, Coded, literalIn, Evaluated, NextsListed, NextReady, shownCodes, Searched}
-use Rattle.lasso_finder.proofs.FrameLaws.{kept-set, kept-join, u16-kept}
+use Rattle.lasso_finder.specs.StateMap.{statePlace, nextPlace, stateBytes, Packed, registersBefore, nextOf, stateCodes, Stored, valueIn, stepValue, Valued, Coded, literalIn, Evaluated, NextsListed, NextReady, shownCodes, Searched}
 use Rattle.lasso_finder.proofs.CodeLaws.{packed-small, packed-more}
 use Rattle.lasso_finder.proofs.RegisterLaws.{on-next, before-yes, before-no, before-all, codes-register, codes-other, state-held}
 use Rattle.lasso_finder.proofs.StateLaws.{IsCode}
@@ -148,7 +149,7 @@ module _ {rows : List Row} {w : List ℕ} {m : ℕ} (from : 1 ≤ m) (to : m ≤
         }
 
     module _ {w₂ : List ℕ} (L : StateKept m w₁ w₂) (P : Packed w₂ (statePlace m) (shownCodes w₁ registers)) where
-      pub advance-kept : Kept (statePlace 0) (knownPlace 0) w w₂
+      pub advance-kept : KeptOutside (statePlace 0) (knownPlace 0) w w₂
       advance-kept = kept-join (statePlace 0) (knownPlace 0) w w₁ w₂ K L (omega arith) (omega arith) (omega arith) (place-case m to (λ d e. omega arith) (λ d e. omega arith))
 
       other-kept : (t : ℕ) (cs : List ℕ) → t ≤ lastState → (t ≡ m → ⊥) → Packed w (statePlace t) cs → Packed w₂ (statePlace t) cs

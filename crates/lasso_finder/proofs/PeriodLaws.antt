@@ -15,7 +15,8 @@ use lib.Seq.{getD-set-same, getD-set-other}
 use Rattle.memory.specs.Lists.{allBelow, firstFrom, countIf}
 use Rattle.memory.specs.Fields.{byteAt}
 use Rattle.memory.proofs.TestLaws.{fails, last-or}
-use Rattle.memory.proofs.ListLaws.{first-none}
+use Rattle.memory.proofs.ListLaws.{first-none, first-found}
+use Rattle.memory.proofs.FrameLaws.{kept-set}
 use Rattle.ternary.specs.Ternary.{codeOf, equal3, isKnown}
 use Rattle.netlist.specs.Limits.{mostPhases, mostOriginalRows, mostOriginalRegisters, foldWorkBytes, lastState}
 use Rattle.netlist.specs.Rows.{Row, rowAt, decodeRow, isRegister}
@@ -29,9 +30,7 @@ use Rattle.lasso_finder.specs.StateMap.{statePlace, valuePlace, codeAt, 
 use Rattle.lasso_finder.specs.Stages.{lassoIn, Lassoed, holdsAs, generatorIn, smallPeriod, periodIn, PeriodPart}
 use Rattle.lasso_finder.proofs.CodeLaws.{packed-at}
 use Rattle.lasso_finder.proofs.RegisterLaws.{before-lt, codes-at}
-use Rattle.lasso_finder.proofs.FrameLaws.{kept-set}
 use Rattle.lasso_finder.proofs.StepLaws.{ValuesKept, packed-values, row-within, row-small, register-is, register-small}
-use Rattle.lasso_finder.proofs.SearchLaws.{first-found}
 
 -- ---- one state after another
 

@@ -1,11 +1,11 @@
 -- What the analysis asks follows from questions 1 to 13, and from a work memory that is long enough and cleared.
 -- Assumes nothing.
-use Prim.Native.Nat.{ℕ, zero, suc, _+_, _-_, _*_, _<_, _≤_, _/_}
-use mathlib.Core.Path.{_≡_, refl, ap, _∙_}
+use Prim.Native.Nat.{ℕ, zero, _+_, _-_, _*_, _<_, _≤_, _/_}
+use mathlib.Core.Path.{_≡_, ap, _∙_}
 use mathlib.Core.List.{List}
 use native.Mathlib.Omega.{arith}
 use lib.ListN.{length, replicate, List·getD-map}
-use Rattle.memory.specs.Fields.{byteAt}
+use Rattle.memory.proofs.FieldLaws.{zeros-at}
 use Rattle.netlist.specs.Limits.{foldWorkBytes}
 use Rattle.netlist.specs.Rows.{encodeRow, decodeRow, constant, rowAt}
 use Rattle.netlist.specs.FileFormat.{blockCount, rowOffset, readFields, rowCount, fieldsOf, netlistOf}
@@ -45,11 +45,6 @@ module _ (f : List ℕ) (F : FileRight namesEarlier f) where
         inside = λ i h. rows-inside i (omega arith);
         decoded = λ i h. rows-decoded i (omega arith);
       }
-
-zeros-at : (n x : ℕ) → byteAt (replicate n 0) x ≡ 0
-zeros-at zero x = refl
-zeros-at (suc n) zero = refl
-zeros-at (suc n) (suc x) = zeros-at n x
 
 pub work-ready-of : (w : List ℕ) (n : ℕ) → w ≡ replicate n 0 → foldWorkBytes ≤ length w → WorkReady w
 work-ready-of w n e h = record { room = h; zero = λ x. rw e (zeros-at n x) }

@@ -2,40 +2,31 @@
 -- Assumes nothing.
 use Prim.Native.Nat.{ℕ, zero, suc, _+_, _-_, _*_, _<_, _≤_, _/_}
 use mathlib.Core.Path.{_≡_, refl, sym, ap, _∙_, subst}
-use mathlib.Core.Bool.{Bool, true, false, false≢true}
+use mathlib.Core.Bool.{Bool, true, false}
 use mathlib.Core.List.{List, []}
 use mathlib.Core.Option.{none, some, Option·some-injective}
 use native.Mathlib.Omega.{arith}
-use native.Mathlib.Decide.{decLt}
 use borrow.Author.Tests.{lt-ltb, le-ltb, le-leb, lt-leb}
 use lib.Dec.{ltb}
 use lib.ListN.{length}
-use Rattle.memory.specs.Lists.{allBelow, firstFrom, countIf}
+use Rattle.memory.specs.Lists.{allBelow, countIf}
 use Rattle.memory.specs.Fields.{IsBytes}
+use Rattle.memory.specs.Frames.{KeptOutside}
 use Rattle.memory.proofs.TestLaws.{last-or}
-use Rattle.memory.proofs.ListLaws.{first-is, first-least, first-none}
+use Rattle.memory.proofs.ListLaws.{first-none, first-found}
+use Rattle.memory.proofs.FrameLaws.{kept-none, kept-join}
 use Rattle.netlist.specs.Limits.{mostOriginalRegisters, lastState}
 use Rattle.netlist.specs.Rows.{Row, isRegister}
 use Rattle.netlist.specs.FileFormat.{netlistOf}
 use Rattle.lasso.specs.LassoSearch.{isRepeat, earlierEqual, firstRepeat, Lasso, findLasso}
 use Rattle.lasso_finder.specs.WorkMap.{knownPlace}
-use Rattle.lasso_finder.specs.StateMap.{Ready, statePlace, valuePlace, nextPlace, Kept, Packed, stateCodes, Stored, Started, Searched}
+use Rattle.lasso_finder.specs.StateMap.{Ready, statePlace, valuePlace, nextPlace, Packed, stateCodes, Stored, Started, Searched}
 use Rattle.lasso_finder.specs.Outcome.{WorkReady}
 use Rattle.lasso_finder.specs.Stages.{sameWord, repeatOf, LassoDone}
 use Rattle.lasso_finder.specs.declared.search.Repeat.the-variants.{Found, Never}
 use Rattle.lasso_finder.proofs.CodeLaws.{packed-none}
-use Rattle.lasso_finder.proofs.FrameLaws.{kept-none, kept-join}
 use Rattle.lasso_finder.proofs.StepLaws.{StartKept, place-within}
 use Rattle.lasso_finder.proofs.WordLaws.{same-states}
-
--- The first number of which f holds.
-pub first-found : (i n : ℕ) (f : ℕ → Bool) (k : ℕ) → i ≤ k → k < i + n → ((j : ℕ) → i ≤ j → j < k → f j ≡ false) → f k ≡ true → firstFrom i n f ≡ k
-first-found i n f k h l before e =
-    let u = first-least i n f k h e in
-    elim (decLt (firstFrom i n f) k) [
-      | yes q ↦ absurd (false≢true (sym (before (firstFrom i n f) (first-is i n f .from) q) ∙ first-is i n f .holds (omega arith)))
-      | no q ↦ omega arith
-    ]
 
 module _ (rows : List Row) where
   -- None of states 0 to k - 1 equals state m; and none of states 1 to m - 1 equals an earlier one.
@@ -75,7 +66,7 @@ pub record Sought (rows : List Row) (w₀ w : List ℕ) (m : ℕ) : Type 0 where
   pub to : m ≤ suc lastState
   pub searched : Searched rows w m
   pub no-repeat : NoRepeat rows m
-  pub kept : Kept (statePlace 0) (knownPlace 0) w₀ w
+  pub kept : KeptOutside (statePlace 0) (knownPlace 0) w₀ w
 
 zeros-packed : (w : List ℕ) → WorkReady w → (t : ℕ) → Packed w (statePlace t) []
 zeros-packed w R t = packed-none w (statePlace t) (λ k h. R .zero (statePlace t + k))
@@ -120,7 +111,7 @@ module _ {rows : List Row} {n : ℕ} {w w₁ : List ℕ} (count : n ≡ length r
           kept = all-kept;
         }
 
-    module _ {w₃ : List ℕ} (small : m ≤ lastState) (L : Kept (statePlace 0) (knownPlace 0) w₂ w₃) (D : Searched rows w₃ (m + 1)) where
+    module _ {w₃ : List ℕ} (small : m ≤ lastState) (L : KeptOutside (statePlace 0) (knownPlace 0) w₂ w₃) (D : Searched rows w₃ (m + 1)) where
       pub sought-next : Unlike rows m m → Sought rows w₁ w₃ (m + 1)
       sought-next u = record {
         from = omega arith;

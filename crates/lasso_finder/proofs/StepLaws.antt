@@ -13,7 +13,9 @@ use borrow.Author.Tests.{eq-eqb, ne-eqb}
 use lib.ListN.{length, set}
 use lib.Seq.{sets, getD-set-same, getD-set-other}
 use Rattle.memory.specs.Fields.{IsBytes, byteAt, u16Bytes}
+use Rattle.memory.specs.Frames.{KeptOutside}
 use Rattle.memory.proofs.TestLaws.{last-or}
+use Rattle.memory.proofs.FrameLaws.{kept-set, kept-at, kept-join, kept-sets, u16-kept, u16-back}
 use Rattle.ternary.specs.Ternary.{Ternary, X, codeOf, valueOf}
 use Rattle.ternary.proofs.RuleLaws.{value-of-code, code-below}
 use Rattle.netlist.specs.Limits.{mostRows, mostOriginalRows, mostOriginalRegisters, foldWorkBytes, lastState}
@@ -25,9 +27,8 @@ use Rattle.netlist.proofs.SimulationLaws.{row-cong}
 use Rattle.lasso.specs.Generators.{stateValue}
 use Rattle.blockfile.specs.RowCode.{fieldsIn}
 use Rattle.blockfile.specs.declared.Fields.{Fields}
-use Rattle.lasso_finder.specs.StateMap.{statePlace, valuePlace, nextPlace, Kept, codeAt, stateBytes, Packed, registersBefore, stateCodes, valueIn, stepValue, Coded, RowReady, rowIn, AtRow, Evaluated, NextsListed, Started}
+use Rattle.lasso_finder.specs.StateMap.{statePlace, valuePlace, nextPlace, codeAt, stateBytes, Packed, registersBefore, stateCodes, valueIn, stepValue, Coded, RowReady, rowIn, AtRow, Evaluated, NextsListed, Started}
 use Rattle.lasso_finder.specs.WorkMap.{knownPlace}
-use Rattle.lasso_finder.proofs.FrameLaws.{kept-set, kept-at, kept-join, kept-sets, u16-kept, u16-back}
 use Rattle.lasso_finder.proofs.CodeLaws.{packed-at, packed-small, packed-more, packed-kept}
 use Rattle.lasso_finder.proofs.RegisterLaws.{kind-register, register-row, reset-code, row-held, before-step, before-le, before-less, before-lt, codes-register, codes-other, codes-length, codes-at, state-held, step-value}
 
@@ -35,14 +36,14 @@ use Rattle.lasso_finder.proofs.RegisterLaws.{kind-register, register-ro
 
 -- The values' part, and the part of state t.
 abbrev pub ValuesKept : List ℕ → List ℕ → Type 0
-ValuesKept w w′ = Kept (valuePlace 0) (valuePlace mostOriginalRows) w w′
+ValuesKept w w′ = KeptOutside (valuePlace 0) (valuePlace mostOriginalRows) w w′
 
 abbrev pub StateKept : ℕ → List ℕ → List ℕ → Type 0
-StateKept t w w′ = Kept (statePlace t) (statePlace t + stateBytes) w w′
+StateKept t w w′ = KeptOutside (statePlace t) (statePlace t + stateBytes) w w′
 
 -- The parts of state 0 and of the list, with all between them.
 abbrev pub StartKept : List ℕ → List ℕ → Type 0
-StartKept w w′ = Kept (statePlace 0) (nextPlace mostOriginalRegisters) w w′
+StartKept w w′ = KeptOutside (statePlace 0) (nextPlace mostOriginalRegisters) w w′
 
 -- State t stands before the values, or it is state 256 and stands behind them.
 pub place-early : (t : ℕ) → t < lastState → statePlace t ≡ 16384 + 64 * t
@@ -82,12 +83,12 @@ pub coded-kept : (w w′ : List ℕ) (t : ℕ) → t ≤ lastState → StateKept
 coded-kept w w′ t h K C = let r = C .room in record { room = omega (arith, K .long); code = λ x l. rw (value-kept w w′ t x h l K) (C .code x l) }
 
 -- Both stay while the list changes.
-module _ {lo hi : ℕ} {w w′ : List ℕ} (K : Kept lo hi w w′) (from : nextPlace 0 ≤ lo) where
+module _ {lo hi : ℕ} {w w′ : List ℕ} (K : KeptOutside lo hi w w′) (from : nextPlace 0 ≤ lo) where
   coded-listed : Coded w → Coded w′
-  coded-listed C = let r = C .room in record { room = omega (arith, K .long); code = λ x l. rw (K .under (valuePlace x) (omega arith)) (C .code x l) }
+  coded-listed C = let r = C .room in record { room = omega (arith, K .long); code = λ x l. rw (K .before (valuePlace x) (omega arith)) (C .code x l) }
 
   packed-listed : (t : ℕ) (cs : List ℕ) → t ≤ lastState → Packed w (statePlace t) cs → Packed w′ (statePlace t) cs
-  packed-listed t cs h P = let q = place-within t h in packed-kept w (statePlace t) cs P w′ (λ k l. K .under (statePlace t + k) (omega arith))
+  packed-listed t cs h P = let q = place-within t h in packed-kept w (statePlace t) cs P w′ (λ k l. K .before (statePlace t + k) (omega arith))
 
 -- A code fits behind the bits of those before it.
 pub put-exact : (x d : ℕ) → x < 3 → d < 4 → (x * 2 ^ (d * 2)) % 2 ^ 8 ≡ x * 2 ^ (d * 2)
@@ -257,7 +258,7 @@ module _ {f : List ℕ} {n i j : ℕ} (A : AtRow f n i j) where
               (rw number-is put-small)))
 
           module _ {w₂ : List ℕ} (small : r .a < 2 ^ 16) (listed : w₂ ≡ sets w₁ (nextPlace j) (u16Bytes (r .a))) where
-            list-kept : Kept (nextPlace j) (nextPlace (j + 1)) w₁ w₂
+            list-kept : KeptOutside (nextPlace j) (nextPlace (j + 1)) w₁ w₂
             list-kept = rw listed (kept-sets (nextPlace j) (nextPlace (j + 1)) (u16Bytes (r .a)) w₁ (nextPlace j) (omega arith) (omega arith))
 
             nexts-more : NextsListed (netlistOf f) w₂ (i + 1)

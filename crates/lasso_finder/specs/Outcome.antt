@@ -7,13 +7,14 @@ use mathlib.Core.List.{List}
 use mathlib.Core.Option.{Option, none, some}
 use lib.ListN.{length}
 use Rattle.memory.specs.Fields.{byteAt}
+use Rattle.memory.specs.Frames.{KeptOutside}
 use Rattle.netlist.specs.Limits.{mostOriginalRows, foldWorkBytes}
 use Rattle.netlist.specs.Rows.{Row}
 use Rattle.lasso.specs.LassoSearch.{Lasso, findLasso}
 use Rattle.lasso.specs.Generators.{periodsOf, usedCount, phaseCount, clockValue}
 use Rattle.lasso.specs.ClockEntries.{clockEntries}
 use Rattle.lasso_finder.specs.WorkMap.{knownPlace, knownIn, entriesIn}
-use Rattle.lasso_finder.specs.StateMap.{statePlace, Kept}
+use Rattle.lasso_finder.specs.StateMap.{statePlace}
 use Rattle.lasso_finder.specs.declared.Analysis.{Analysis}
 use Rattle.lasso_finder.specs.declared.Analysis.the-variants.{NoLasso, Found}
 use Rattle.lasso_finder.specs.declared.Clocks.{Clocks}
@@ -39,4 +40,4 @@ pub record Analysed (rows : List Row) (wish : ℕ) (w w′ : List ℕ) (r : Anal
   pub answer : r ≡ analysisOf rows wish (findLasso rows)
   pub known : (z : Lasso) → findLasso rows ≡ some z → (i k : ℕ) → i < length rows → k < phasesOf rows wish z → knownIn w′ i k ≡ clockValue rows (periodsOf rows z) (phasesOf rows wish z) i k
   pub entries : (z : Lasso) → findLasso rows ≡ some z → entriesIn w′ (usedCount (periodsOf rows z) (phasesOf rows wish z)) ≡ clockEntries rows (periodsOf rows z) (phasesOf rows wish z)
-  pub kept : Kept (statePlace 0) (knownPlace mostOriginalRows) w w′
+  pub kept : KeptOutside (statePlace 0) (knownPlace mostOriginalRows) w w′

@@ -11,6 +11,7 @@ use lib.Seq.{sets}
 use lib.Count.{ones}
 use Rattle.memory.specs.Lists.{allBelow, joinBelow, tabulate, firstFrom}
 use Rattle.memory.specs.Fields.{byteAt, u32At, u16Bytes, u32Bytes}
+use Rattle.memory.specs.Frames.{KeptOutside}
 use Rattle.ternary.specs.Ternary.{Ternary, valueOf}
 use Rattle.netlist.specs.Limits.{mostPhases, mostOriginalRegisters, foldWorkBytes, foldClockEntries}
 use Rattle.netlist.specs.Rows.{Row, rowAt, labelOf, isRegister}
@@ -19,7 +20,7 @@ use Rattle.lasso.specs.LassoSearch.{Lasso, findLasso}
 use Rattle.lasso.specs.Generators.{periodOf, periodsOf, isUsed, clockValue}
 use Rattle.lasso.specs.ClockEntries.{ClockEntry, clockWord}
 use Rattle.lasso_finder.specs.WorkMap.{knownPlace, entryPlace, entriesIn}
-use Rattle.lasso_finder.specs.StateMap.{Ready, statePlace, valuePlace, nextPlace, codeAt, Kept, registersBefore, Stored}
+use Rattle.lasso_finder.specs.StateMap.{Ready, statePlace, valuePlace, nextPlace, codeAt, registersBefore, Stored}
 use Rattle.lasso_finder.specs.declared.search.Repeat.{Repeat}
 use Rattle.lasso_finder.specs.declared.search.Repeat.the-variants.{Found, Never}
 
@@ -40,7 +41,7 @@ repeatOf (some z) = Found (z .stem) (z .cycle)
 pub record LassoDone (rows : List Row) (w w′ : List ℕ) (r : Repeat) : Type 0 where
   pub answer : r ≡ repeatOf (findLasso rows)
   pub states : (z : Lasso) → findLasso rows ≡ some z → (t : ℕ) → t < z .stem + z .cycle → Stored rows w′ t
-  pub kept : Kept (statePlace 0) (nextPlace mostOriginalRegisters) w w′
+  pub kept : KeptOutside (statePlace 0) (nextPlace mostOriginalRegisters) w w′
 
 -- The lasso, where there is one.
 abbrev pub lassoOf : Option Lasso → Lasso
@@ -146,4 +147,4 @@ entriesFrom rows w i = joinBelow i (λ x. cond (eqb (byteAt w (knownPlace x)) 0)
 pub record EntryPart (rows : List Row) (w w′ : List ℕ) (i e : ℕ) : Type 0 where
   pub entries : entriesIn w′ e ≡ entriesFrom rows w i
   pub few : e ≤ registersBefore rows i
-  pub kept : Kept (entryPlace 0) (entryPlace foldClockEntries) w w′
+  pub kept : KeptOutside (entryPlace 0) (entryPlace foldClockEntries) w w′

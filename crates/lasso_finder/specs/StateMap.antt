@@ -1,5 +1,5 @@
 -- Fold's work memory while the lasso is sought: the states, four registers to a byte, each row's value, a byte each, and the registers' next-value literals, two bytes each.
--- Interface: Ready (what an accepted file gives), statePlace, valuePlace, nextPlace, Packed, Stored, Valued, Kept.
+-- Interface: Ready (what an accepted file gives), statePlace, valuePlace, nextPlace, Packed, Stored, Valued.
 -- Assumes nothing.
 use Prim.Native.Nat.{ℕ, _+_, _*_, _<_, _≤_, _/_, _%_, _^_}
 use mathlib.Core.Path.{_≡_}
@@ -39,12 +39,6 @@ valuePlace i = 32768 + i
 -- The next-value literal of register j has two bytes from here on, where later stands what is known of the rows.
 abbrev pub nextPlace : ℕ → ℕ
 nextPlace j = knownPlace j
-
--- w′ is w but for the bytes from lo to hi - 1.
-pub record Kept (lo hi : ℕ) (w w′ : List ℕ) : Type 0 where
-  pub long : length w′ ≡ length w
-  pub under : (x : ℕ) → x < lo → byteAt w′ x ≡ byteAt w x
-  pub over : (x : ℕ) → hi ≤ x → byteAt w′ x ≡ byteAt w x
 
 -- ---- a state
 

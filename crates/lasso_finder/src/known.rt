@@ -4,11 +4,12 @@ ghost use mathlib.Core.List.{[], _∷_};
 ghost use Prim.Native.Nat.{_+_, _*_, _<_, _≤_, _^_};
 ghost use lib.ListN.{length};
 ghost use lib.Seq.{sets};
+ghost use Rattle.memory.specs.Frames.{KeptOutside};
 ghost use Rattle.netlist.specs.Limits.{mostPhases, mostOriginalRows, foldWorkBytes};
 ghost use Rattle.netlist.specs.FileFormat.{netlistOf};
 ghost use Rattle.lasso.specs.ClockEntries.{clockWord};
 ghost use Rattle.lasso_finder.specs.WorkMap.{knownPlace};
-ghost use Rattle.lasso_finder.specs.StateMap.{Ready, Kept, registersBefore, AtRow};
+ghost use Rattle.lasso_finder.specs.StateMap.{Ready, registersBefore, AtRow};
 ghost use Rattle.lasso_finder.specs.Stages.{WordReady, phaseValue, PeriodPart, KnownPart};
 use crate::periods;
 use crate::states;
@@ -61,7 +62,7 @@ fn known_row(
 ) -> usize
     requires { ⌜ AtRow (now file) rows row j ⌝ }
     requires { ⌜ (1 ≤ phases) × ((phases ≤ mostPhases) × KnownPart (netlistOf (now file)) phases (now work) row) ⌝ }
-    ensures { λ r. ⌜ (r ≡ registersBefore (netlistOf (now (file .entry))) (row + 1)) × (Kept (knownPlace 0) (knownPlace mostOriginalRows) (now (work .entry)) (now (work .exit)) × KnownPart (netlistOf (now (file .entry))) phases (now (work .exit)) (row + 1)) ⌝ }
+    ensures { λ r. ⌜ (r ≡ registersBefore (netlistOf (now (file .entry))) (row + 1)) × (KeptOutside (knownPlace 0) (knownPlace mostOriginalRows) (now (work .entry)) (now (work .exit)) × KnownPart (netlistOf (now (file .entry))) phases (now (work .exit)) (row + 1)) ⌝ }
 {
     let fields = blockfile::read_row(file, row);
     let next = states::count_register(fields.kind, j);
@@ -81,7 +82,7 @@ fn known_row(
 pub fn find_known(file: &[u8], rows: usize, work: &mut [u8], phases: usize)
     requires { ⌜ Ready (now file) rows ⌝ }
     requires { ⌜ (1 ≤ phases) × ((phases ≤ mostPhases) × PeriodPart (netlistOf (now file)) (now work) rows) ⌝ }
-    ensures { λ _. ⌜ Kept (knownPlace 0) (knownPlace mostOriginalRows) (now (work .entry)) (now (work .exit)) × KnownPart (netlistOf (now (file .entry))) phases (now (work .exit)) rows ⌝ }
+    ensures { λ _. ⌜ KeptOutside (knownPlace 0) (knownPlace mostOriginalRows) (now (work .entry)) (now (work .exit)) × KnownPart (netlistOf (now (file .entry))) phases (now (work .exit)) rows ⌝ }
 {
     let mut i = 0;
     let mut j = 0;

@@ -4,10 +4,11 @@ ghost use mathlib.Core.Bool.{cond};
 ghost use Prim.Native.Nat.{_+_, _*_, _<_, _≤_};
 ghost use lib.Dec.{eqb};
 ghost use lib.ListN.{length};
+ghost use Rattle.memory.specs.Frames.{KeptOutside};
 ghost use Rattle.netlist.specs.Limits.{mostPhases, mostOriginalRows, mostOriginalRegisters, foldWorkBytes, lastState};
 ghost use Rattle.netlist.specs.FileFormat.{netlistOf};
 ghost use Rattle.lasso.specs.Generators.{isUsed, usedCount, bestPhaseCount, phaseCount};
-ghost use Rattle.lasso_finder.specs.StateMap.{Ready, valuePlace, Kept, registersBefore, AtRow};
+ghost use Rattle.lasso_finder.specs.StateMap.{Ready, valuePlace, registersBefore, AtRow};
 ghost use Rattle.lasso_finder.specs.Stages.{lassoIn, Lassoed, holdsAs, repeatsIn, generatorIn, periodIn, PeriodPart, periodBytes};
 use crate::states;
 
@@ -96,7 +97,7 @@ fn period_row(
 ) -> usize
     requires { ⌜ AtRow (now file) rows row j ⌝ }
     requires { ⌜ (m ≡ lassoIn (netlistOf (now file)) .stem + lassoIn (netlistOf (now file)) .cycle) × ((cycle ≡ lassoIn (netlistOf (now file)) .cycle) × PeriodPart (netlistOf (now file)) (now work) row) ⌝ }
-    ensures { λ r. ⌜ (r ≡ registersBefore (netlistOf (now (file .entry))) (row + 1)) × (Kept (valuePlace 0) (valuePlace mostOriginalRows) (now (work .entry)) (now (work .exit)) × PeriodPart (netlistOf (now (file .entry))) (now (work .exit)) (row + 1)) ⌝ }
+    ensures { λ r. ⌜ (r ≡ registersBefore (netlistOf (now (file .entry))) (row + 1)) × (KeptOutside (valuePlace 0) (valuePlace mostOriginalRows) (now (work .entry)) (now (work .exit)) × PeriodPart (netlistOf (now (file .entry))) (now (work .exit)) (row + 1)) ⌝ }
 {
     let fields = blockfile::read_row(file, row);
     let kind = fields.kind;
@@ -114,7 +115,7 @@ fn period_row(
 pub fn find_periods(file: &[u8], rows: usize, work: &mut [u8], stem: usize, cycle: usize)
     requires { ⌜ Ready (now file) rows ⌝ }
     requires { ⌜ (stem ≡ lassoIn (netlistOf (now file)) .stem) × ((cycle ≡ lassoIn (netlistOf (now file)) .cycle) × Lassoed (netlistOf (now file)) (now work)) ⌝ }
-    ensures { λ _. ⌜ Kept (valuePlace 0) (valuePlace mostOriginalRows) (now (work .entry)) (now (work .exit)) × PeriodPart (netlistOf (now (file .entry))) (now (work .exit)) rows ⌝ }
+    ensures { λ _. ⌜ KeptOutside (valuePlace 0) (valuePlace mostOriginalRows) (now (work .entry)) (now (work .exit)) × PeriodPart (netlistOf (now (file .entry))) (now (work .exit)) rows ⌝ }
 {
     let m = stem + cycle;
     let mut i = 0;

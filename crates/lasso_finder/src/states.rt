@@ -7,11 +7,12 @@ ghost use lib.ListN.{length, set};
 ghost use lib.Seq.{sets};
 ghost use Rattle.memory.specs.Lists.{countIf};
 ghost use Rattle.memory.specs.Fields.{byteAt, u16Bytes};
+ghost use Rattle.memory.specs.Frames.{KeptOutside};
 ghost use Rattle.ternary.specs.Ternary.{and3, xor3, mux3, codeOf};
 ghost use Rattle.netlist.specs.Limits.{mostOriginalRows, mostOriginalRegisters, foldWorkBytes, lastState};
 ghost use Rattle.netlist.specs.Rows.{isRegister};
 ghost use Rattle.netlist.specs.FileFormat.{rowOffset, netlistOf};
-ghost use Rattle.lasso_finder.specs.StateMap.{Ready, statePlace, valuePlace, nextPlace, Kept, codeAt, stateBytes, Packed, registersBefore, Coded, literalIn, RowReady, rowIn, AtRow, InBlock, BlockStop, Evaluated, Started, shownCodes, NextReady, Searched};
+ghost use Rattle.lasso_finder.specs.StateMap.{Ready, statePlace, valuePlace, nextPlace, codeAt, stateBytes, Packed, registersBefore, Coded, literalIn, RowReady, rowIn, AtRow, InBlock, BlockStop, Evaluated, Started, shownCodes, NextReady, Searched};
 ghost use Rattle.lasso_finder.specs.WorkMap.{knownPlace};
 
 // The lent memory: the states, the rows' values, and the registers' next-value literals, where later stands what is known of the rows.
@@ -135,7 +136,7 @@ fn evaluate_row(
 ) -> usize
     requires { ⌜ AtRow (now file) rows row j × (place ≡ rowOffset row) ⌝ }
     requires { ⌜ (t < lastState) × Evaluated (netlistOf (now file)) (now work) t row ⌝ }
-    ensures { λ r. ⌜ (r ≡ registersBefore (netlistOf (now (file .entry))) (row + 1)) × (Kept (valuePlace 0) (valuePlace mostOriginalRows) (now (work .entry)) (now (work .exit)) × Evaluated (netlistOf (now (file .entry))) (now (work .exit)) t (row + 1)) ⌝ }
+    ensures { λ r. ⌜ (r ≡ registersBefore (netlistOf (now (file .entry))) (row + 1)) × (KeptOutside (valuePlace 0) (valuePlace mostOriginalRows) (now (work .entry)) (now (work .exit)) × Evaluated (netlistOf (now (file .entry))) (now (work .exit)) t (row + 1)) ⌝ }
 {
     let fields = blockfile::read_at(file, place);
     let base = HISTORY + 64 * t;
@@ -158,7 +159,7 @@ fn evaluate_block(
 ) -> usize
     requires { ⌜ InBlock (now file) rows start stop first before ⌝ }
     requires { ⌜ (t < lastState) × Evaluated (netlistOf (now file)) (now work) t start ⌝ }
-    ensures { λ r. ⌜ (r ≡ registersBefore (netlistOf (now (file .entry))) stop) × (Kept (valuePlace 0) (valuePlace mostOriginalRows) (now (work .entry)) (now (work .exit)) × Evaluated (netlistOf (now (file .entry))) (now (work .exit)) t stop) ⌝ }
+    ensures { λ r. ⌜ (r ≡ registersBefore (netlistOf (now (file .entry))) stop) × (KeptOutside (valuePlace 0) (valuePlace mostOriginalRows) (now (work .entry)) (now (work .exit)) × Evaluated (netlistOf (now (file .entry))) (now (work .exit)) t stop) ⌝ }
 {
     let mut i = start;
     let mut place = first;
@@ -187,7 +188,7 @@ fn block_stop(start: usize, rows: usize) -> usize
 fn evaluate(file: &[u8], rows: usize, work: &mut [u8], t: usize)
     requires { ⌜ Ready (now file) rows ⌝ }
     requires { ⌜ (t < lastState) × Evaluated (netlistOf (now file)) (now work) t 0 ⌝ }
-    ensures { λ _. ⌜ Kept (valuePlace 0) (valuePlace mostOriginalRows) (now (work .entry)) (now (work .exit)) × Evaluated (netlistOf (now (file .entry))) (now (work .exit)) t rows ⌝ }
+    ensures { λ _. ⌜ KeptOutside (valuePlace 0) (valuePlace mostOriginalRows) (now (work .entry)) (now (work .exit)) × Evaluated (netlistOf (now (file .entry))) (now (work .exit)) t rows ⌝ }
 {
     let mut start = 0;
     let mut first = FIRST_ROW;
@@ -228,7 +229,7 @@ fn list_next(work: &mut [u8], j: usize, next: usize)
 fn start_row(file: &[u8], rows: usize, row: usize, j: usize, work: &mut [u8]) -> usize
     requires { ⌜ AtRow (now file) rows row j ⌝ }
     requires { ⌜ Started (netlistOf (now file)) (now work) row ⌝ }
-    ensures { λ r. ⌜ (r ≡ registersBefore (netlistOf (now (file .entry))) (row + 1)) × (Kept (statePlace 0) (nextPlace mostOriginalRegisters) (now (work .entry)) (now (work .exit)) × Started (netlistOf (now (file .entry))) (now (work .exit)) (row + 1)) ⌝ }
+    ensures { λ r. ⌜ (r ≡ registersBefore (netlistOf (now (file .entry))) (row + 1)) × (KeptOutside (statePlace 0) (nextPlace mostOriginalRegisters) (now (work .entry)) (now (work .exit)) × Started (netlistOf (now (file .entry))) (now (work .exit)) (row + 1)) ⌝ }
 {
     let fields = blockfile::read_row(file, row);
     let kind = fields.kind;
@@ -246,7 +247,7 @@ fn start_row(file: &[u8], rows: usize, row: usize, j: usize, work: &mut [u8]) ->
 pub fn start(file: &[u8], rows: usize, work: &mut [u8]) -> usize
     requires { ⌜ Ready (now file) rows ⌝ }
     requires { ⌜ Started (netlistOf (now file)) (now work) 0 ⌝ }
-    ensures { λ r. ⌜ (r ≡ countIf isRegister (netlistOf (now (file .entry)))) × (Kept (statePlace 0) (nextPlace mostOriginalRegisters) (now (work .entry)) (now (work .exit)) × Started (netlistOf (now (file .entry))) (now (work .exit)) rows) ⌝ }
+    ensures { λ r. ⌜ (r ≡ countIf isRegister (netlistOf (now (file .entry)))) × (KeptOutside (statePlace 0) (nextPlace mostOriginalRegisters) (now (work .entry)) (now (work .exit)) × Started (netlistOf (now (file .entry))) (now (work .exit)) rows) ⌝ }
 {
     let mut i = 0;
     let mut j = 0;
@@ -262,7 +263,7 @@ pub fn start(file: &[u8], rows: usize, work: &mut [u8]) -> usize
 // Puts state m in its place: what each of the n listed literals shows.
 fn pack_next(work: &mut [u8], n: usize, m: usize)
     requires { ⌜ NextReady (now work) n m ⌝ }
-    ensures { λ _. ⌜ Kept (statePlace m) (statePlace m + stateBytes) (now (work .entry)) (now (work .exit)) × Packed (now (work .exit)) (statePlace m) (shownCodes (now (work .entry)) n) ⌝ }
+    ensures { λ _. ⌜ KeptOutside (statePlace m) (statePlace m + stateBytes) (now (work .entry)) (now (work .exit)) × Packed (now (work .exit)) (statePlace m) (shownCodes (now (work .entry)) n) ⌝ }
 {
     let base = state_place(m);
     let mut j = 0;
@@ -279,7 +280,7 @@ fn pack_next(work: &mut [u8], n: usize, m: usize)
 pub fn advance(file: &[u8], rows: usize, registers: usize, work: &mut [u8], m: usize)
     requires { ⌜ Ready (now file) rows × (registers ≡ countIf isRegister (netlistOf (now file))) ⌝ }
     requires { ⌜ (1 ≤ m) × ((m ≤ lastState) × Searched (netlistOf (now file)) (now work) m) ⌝ }
-    ensures { λ _. ⌜ Kept (statePlace 0) (knownPlace 0) (now (work .entry)) (now (work .exit)) × Searched (netlistOf (now (file .entry))) (now (work .exit)) (m + 1) ⌝ }
+    ensures { λ _. ⌜ KeptOutside (statePlace 0) (knownPlace 0) (now (work .entry)) (now (work .exit)) × Searched (netlistOf (now (file .entry))) (now (work .exit)) (m + 1) ⌝ }
 {
     let last = m - 1;
     evaluate(file, rows, work, last);

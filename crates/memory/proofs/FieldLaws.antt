@@ -1,7 +1,7 @@
 -- Lists of bytes. Numbers of 16 and 32 bits: what is written is read again, and what is read of bytes is written again.
 -- Assumes nothing.
 use Prim.Native.Nat.{ℕ, zero, suc, _+_, _*_, _<_, _%_, _/_, _^_}
-use mathlib.Core.Path.{_≡_, ap}
+use mathlib.Core.Path.{_≡_, refl, ap}
 use mathlib.Core.List.{List, [], _∷_, _++_}
 use native.Mathlib.Omega.{arith}
 use lib.ListN.{replicate}
@@ -22,9 +22,13 @@ pub bytes-join : (n : ℕ) (f : ℕ → List ℕ) → ((j : ℕ) → j < n → I
 bytes-join zero f h = λ i. omega arith
 bytes-join (suc n) f h = bytes-append (joinBelow n f) (f n) (bytes-join n f (λ j l. h j (omega arith))) (h n (omega arith))
 
+pub zeros-at : (n i : ℕ) → byteAt (replicate n 0) i ≡ 0
+zeros-at zero i = refl
+zeros-at (suc n) zero = refl
+zeros-at (suc n) (suc i) = zeros-at n i
+
 pub bytes-zeros : (n : ℕ) → IsBytes (replicate n 0)
-bytes-zeros zero = λ i. omega arith
-bytes-zeros (suc n) = bytes-cons 0 (replicate n 0) (omega arith) (bytes-zeros n)
+bytes-zeros n i = rw (zeros-at n i) (omega arith)
 
 pub u16-is-bytes : (n : ℕ) → IsBytes (u16Bytes n)
 u16-is-bytes n zero = omega arith

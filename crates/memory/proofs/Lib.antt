@@ -1,5 +1,6 @@
--- Laws of tests, of lists made by number, of searches, of fields and of buffers.
+-- Laws of tests, of lists made by number, of searches, of fields, of buffers and of what stays of them.
 pub mod TestLaws
 pub mod ListLaws
 pub mod FieldLaws
 pub mod BufferLaws
+pub mod FrameLaws

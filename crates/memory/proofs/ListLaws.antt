@@ -30,6 +30,10 @@ allBelow-iff n f h = (λ e i l. h i .0 (allBelow-at n f e i l), λ g. allBelow-o
 
 -- ---- joinBelow
 
+pub join-cong {ℓ} : {A : Type ℓ} (n : ℕ) (f g : ℕ → List A) → ((j : ℕ) → j < n → f j ≡ g j) → joinBelow n f ≡ joinBelow n g
+join-cong zero f g h = refl
+join-cong (suc n) f g h = rw (join-cong n f g (λ j l. h j (omega arith)), h n (omega arith))
+
 -- The lists all have s elements.
 module _ {ℓ} {A : Type ℓ} (s : ℕ) (f : ℕ → List A) where
   pub join-length : (n : ℕ) → ((j : ℕ) → j < n → length (f j) ≡ s) → length (joinBelow n f) ≡ s * n
@@ -49,6 +53,9 @@ module _ {ℓ} {A : Type ℓ} (s : ℕ) (f : ℕ → List A) where
       inside n j d k l e = omega (arith, mul-le-mul-left s k, mul-suc s j)
 
 -- ---- tabulate
+
+pub tabulate-cong {ℓ} : {A : Type ℓ} (n : ℕ) (f g : ℕ → A) → ((j : ℕ) → j < n → f j ≡ g j) → tabulate n f ≡ tabulate n g
+tabulate-cong n f g h = join-cong n (λ j. f j ∷ []) (λ j. g j ∷ []) (λ j l. rw (h j l))
 
 pub tabulate-length {ℓ} : {A : Type ℓ} (n : ℕ) (f : ℕ → A) → length (tabulate n f) ≡ n
 tabulate-length zero f = refl
@@ -93,6 +100,15 @@ first-least i n f j h e = elim (decLt j (firstFrom i n f)) [
   | yes k ↦ absurd (false≢true (sym (first-is i n f .before j h k) ∙ e))
   | no k ↦ omega arith
 ]
+
+-- A number of which f holds, and of none before it.
+pub first-found : (i n : ℕ) (f : ℕ → Bool) (k : ℕ) → i ≤ k → k < i + n → ((j : ℕ) → i ≤ j → j < k → f j ≡ false) → f k ≡ true → firstFrom i n f ≡ k
+first-found i n f k h l b e =
+    let u = first-least i n f k h e in
+    elim (decLt (firstFrom i n f) k) [
+      | yes q ↦ absurd (false≢true (sym (b (firstFrom i n f) (first-is i n f .from) q) ∙ first-is i n f .holds (omega arith)))
+      | no q ↦ omega arith
+    ]
 
 -- f holds of none of them: the number after them.
 pub first-none : (i n : ℕ) (f : ℕ → Bool) → ((j : ℕ) → i ≤ j → j < i + n → f j ≡ false) → firstFrom i n f ≡ i + n

@@ -1,3 +1,4 @@
--- Lists, searches over a run of numbers, and little-endian fields.
+-- Lists, searches over a run of numbers, little-endian fields, and what stays of a run of bytes.
 pub mod Lists
 pub mod Fields
+pub mod Frames

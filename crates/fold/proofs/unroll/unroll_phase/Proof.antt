@@ -36,13 +36,13 @@ rows-again : tie.Need-rows-again Inv-rows μ-rows
 rows-again c =
     let s = c .before .before .before .before .before .before .before .before .before .before .before .before in
     let l = c .before .before .before .before .before .before .before .before .rows in
-    (search needs, rw (add-one (l .i)) (going-more (s .args .file .now) (s .args .result .now) (s .args .work .now) (s .args .k) (l .i) (l .result) (l .work) (l .m) (l .inv .1) (s .args .k) (suc (l .i)) _ _ _ (search needs) (search needs) (c .before .before .before .before .unroll-row .ensures)))
+    (search needs, rw (add-one (l .i)) (going-more (s .args .file .now) (s .args .result .now) (s .args .work .now) (s .args .k) (l .i) (l .result) (l .work) (l .m) (l .inv .1) (s .args .k) (suc (l .i)) _ _ _ (search needs) (c .before .before .before .before .unroll-row .ensures)))
 
 same-length : tie.Need-same-length Inv-rows μ-rows
 same-length c = c .before .rows .inv .1 .same-result
 
 same-length-2 : tie.Need-same-length-2 Inv-rows μ-rows
-same-length-2 c = c .before .rows .inv .1 .same-work
+same-length-2 c = c .before .rows .inv .1 .kept .long
 
 returns : tie.Need-returns Inv-rows μ-rows
 returns c =

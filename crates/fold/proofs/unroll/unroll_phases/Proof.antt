@@ -43,7 +43,7 @@ phases-again : tie.Need-phases-again Inv-phases μ-phases
 phases-again c =
     let s = c .before .before .before .before .before .before .before .before .before .before .before .before .before .before .before .before in
     let l = c .before .before .before .before .before .before .before .before .phases in
-    (search needs, rw (add-one (l .k)) (going-more (s .args .file .now) (c .before .before .before .before .before .before .before .before .before .before .before .put-row .last .0) (s .args .work .now) (l .k) 0 (l .result) (l .work) (l .m) (l .inv .1) (suc (l .k)) 0 _ _ _ (search needs) (search needs) (c .before .before .before .before .unroll-phase .ensures)))
+    (search needs, rw (add-one (l .k)) (going-more (s .args .file .now) (c .before .before .before .before .before .before .before .before .before .before .before .put-row .last .0) (s .args .work .now) (l .k) 0 (l .result) (l .work) (l .m) (l .inv .1) (suc (l .k)) 0 _ _ _ (search needs) (c .before .before .before .before .unroll-phase .ensures)))
 
 same-length : tie.Need-same-length Inv-phases μ-phases
 same-length c = search needs

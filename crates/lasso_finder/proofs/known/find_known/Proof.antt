@@ -3,18 +3,19 @@
 use native.Mathlib.Omega.{arith}
 use mathlib.Core.Path.{_≡_, refl, subst}
 use Prim.Native.Nat.{_-_, _≤_}
+use Rattle.memory.proofs.FrameLaws.{kept-none, kept-join}
+use Rattle.memory.specs.Frames.{KeptOutside}
 use Rattle.netlist.specs.FileFormat.{netlistOf}
 use Rattle.netlist.specs.Limits.{mostOriginalRows}
 use Rattle.lasso_finder.specs.WorkMap.{knownPlace}
-use Rattle.lasso_finder.specs.StateMap.{Kept, registersBefore}
+use Rattle.lasso_finder.specs.StateMap.{registersBefore}
 use Rattle.lasso_finder.specs.Stages.{PeriodPart, KnownPart}
-use Rattle.lasso_finder.proofs.FrameLaws.{kept-none, kept-join}
 use borrow.Author.Needs.{needs}
 use Rattle.lasso_finder.proofs.known.find_known.Statement.{statement}
 use Rattle.lasso_finder.proofs.known.find_known.Tie as tie
 
 abbrev Inv-rows : tie.InvT-rows
-Inv-rows file rows work₀ phases i₀ j₀ work i j = (i ≤ rows) × ((j ≡ registersBefore (netlistOf file) i) × (Kept (knownPlace 0) (knownPlace mostOriginalRows) work₀ work × KnownPart (netlistOf file) phases work i))
+Inv-rows file rows work₀ phases i₀ j₀ work i j = (i ≤ rows) × ((j ≡ registersBefore (netlistOf file) i) × (KeptOutside (knownPlace 0) (knownPlace mostOriginalRows) work₀ work × KnownPart (netlistOf file) phases work i))
 
 abbrev μ-rows : tie.MeasureT-rows
 μ-rows file rows work₀ phases i₀ j₀ work i j = rows - i

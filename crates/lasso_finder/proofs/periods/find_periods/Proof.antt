@@ -3,18 +3,19 @@
 use native.Mathlib.Omega.{arith}
 use mathlib.Core.Path.{_≡_, refl, subst}
 use Prim.Native.Nat.{_-_, _≤_}
+use Rattle.memory.proofs.FrameLaws.{kept-none, kept-join}
+use Rattle.memory.specs.Frames.{KeptOutside}
 use Rattle.netlist.specs.FileFormat.{netlistOf}
 use Rattle.netlist.specs.Limits.{mostOriginalRows}
-use Rattle.lasso_finder.specs.StateMap.{valuePlace, Kept, registersBefore}
+use Rattle.lasso_finder.specs.StateMap.{valuePlace, registersBefore}
 use Rattle.lasso_finder.specs.Stages.{PeriodPart}
-use Rattle.lasso_finder.proofs.FrameLaws.{kept-none, kept-join}
 use Rattle.lasso_finder.proofs.PeriodLaws.{lasso-short}
 use borrow.Author.Needs.{needs}
 use Rattle.lasso_finder.proofs.periods.find_periods.Statement.{statement}
 use Rattle.lasso_finder.proofs.periods.find_periods.Tie as tie
 
 abbrev Inv-rows : tie.InvT-rows
-Inv-rows file rows work₀ stem cycle m i₀ j₀ work i j = (i ≤ rows) × ((j ≡ registersBefore (netlistOf file) i) × (Kept (valuePlace 0) (valuePlace mostOriginalRows) work₀ work × PeriodPart (netlistOf file) work i))
+Inv-rows file rows work₀ stem cycle m i₀ j₀ work i j = (i ≤ rows) × ((j ≡ registersBefore (netlistOf file) i) × (KeptOutside (valuePlace 0) (valuePlace mostOriginalRows) work₀ work × PeriodPart (netlistOf file) work i))
 
 abbrev μ-rows : tie.MeasureT-rows
 μ-rows file rows work₀ stem cycle m i₀ j₀ work i j = rows - i

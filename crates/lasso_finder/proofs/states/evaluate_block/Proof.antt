@@ -3,10 +3,10 @@
 use native.Mathlib.Omega.{arith}
 use mathlib.Core.Path.{_≡_, subst, ap, _∙_}
 use Prim.Native.Nat.{_+_, _-_, _*_, _≤_}
+use Rattle.memory.proofs.FrameLaws.{kept-none, kept-join}
 use Rattle.netlist.specs.FileFormat.{netlistOf}
 use Rattle.netlist.specs.Limits.{mostOriginalRows}
 use Rattle.lasso_finder.specs.StateMap.{valuePlace, registersBefore, Evaluated}
-use Rattle.lasso_finder.proofs.FrameLaws.{kept-none, kept-join}
 use Rattle.lasso_finder.proofs.StepLaws.{ValuesKept}
 use Rattle.lasso_finder.proofs.BlockLaws.{block-row, place-small}
 use borrow.Author.Needs.{needs}

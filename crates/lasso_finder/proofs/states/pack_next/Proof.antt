@@ -4,8 +4,8 @@ use native.Mathlib.Omega.{arith}
 use mathlib.Core.Path.{_≡_, subst}
 use Prim.Native.Nat.{_+_, _-_, _≤_}
 use Rattle.memory.specs.Fields.{IsBytes}
+use Rattle.memory.proofs.FrameLaws.{kept-none}
 use Rattle.lasso_finder.specs.StateMap.{statePlace, stateBytes, Packed, shownCodes}
-use Rattle.lasso_finder.proofs.FrameLaws.{kept-none}
 use Rattle.lasso_finder.proofs.StepLaws.{StateKept}
 use Rattle.lasso_finder.proofs.NextLaws.{literal-asks, next-put-asks, next-packed}
 use Rattle.lasso_finder.proofs.states.pack_next.Statement.{statement}

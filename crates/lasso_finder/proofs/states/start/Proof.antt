@@ -3,11 +3,11 @@
 use native.Mathlib.Omega.{arith}
 use mathlib.Core.Path.{_≡_, refl, ap, _∙_, subst}
 use Prim.Native.Nat.{_-_, _≤_}
+use Rattle.memory.proofs.FrameLaws.{kept-none, kept-join}
 use Rattle.netlist.specs.FileFormat.{netlistOf}
 use Rattle.netlist.specs.Limits.{mostOriginalRegisters}
 use Rattle.lasso_finder.specs.StateMap.{statePlace, nextPlace, registersBefore, Started}
 use Rattle.lasso_finder.proofs.RegisterLaws.{before-all}
-use Rattle.lasso_finder.proofs.FrameLaws.{kept-none, kept-join}
 use Rattle.lasso_finder.proofs.StepLaws.{StartKept}
 use borrow.Author.Needs.{needs}
 use Rattle.lasso_finder.proofs.states.start.Statement.{statement}

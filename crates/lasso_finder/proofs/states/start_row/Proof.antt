@@ -1,9 +1,9 @@
 -- `start_row` meets its contract: what it puts is what the register holds in state 0, and what it lists is its next-value literal.
 -- Assumes nothing.
 use native.Mathlib.Omega.{arith}
+use Rattle.memory.proofs.FrameLaws.{kept-none}
 use Rattle.netlist.specs.Limits.{mostOriginalRegisters}
 use Rattle.lasso_finder.specs.StateMap.{statePlace, nextPlace}
-use Rattle.lasso_finder.proofs.FrameLaws.{kept-none}
 use Rattle.lasso_finder.proofs.StepLaws.{read-asks, number-small, register-yes, register-no, number-yes, number-no, put-asks, list-asks, started-more, started-other}
 use borrow.Author.Needs.{needs}
 use Rattle.lasso_finder.proofs.states.start_row.Statement.{statement}
