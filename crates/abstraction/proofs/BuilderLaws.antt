@@ -12,7 +12,7 @@ use Rattle.memory.proofs.TestLaws.{last-or}
 use Rattle.ternary.specs.Ternary.{Ternary, lo, hi, X}
 use Rattle.netlist.specs.Rows.{Row, constant, input, register, andGate, xorGate, muxGate, output, rowAt, kindOf, labelOf, phaseOf, hasName, isRegister, isOutput}
 use Rattle.netlist.specs.Simulation.{boolLogic, complementIf, literalValue, rowValue}
-use Rattle.netlist.proofs.RowLaws.{unnamed, EachRow, each-append, each-one}
+use Rattle.netlist.proofs.RowLaws.{unnamed}
 use Rattle.netlist.proofs.WellFormed.{OperandsBelow, Ordered}
 use Rattle.abstraction.specs.GateMaking.{Image, existing, newRow, Unrolling, addImage}
 use Rattle.abstraction.specs.Unrolling.{complementBy, imageLiteral, registerImage, rowImage}
@@ -93,11 +93,6 @@ add-rows q (newRow r b) = one
 pub added-length : {made : List Row} {i : Image} {made′ : List Row} → Added made i made′ → (length made ≤ length made′) × (length made′ ≤ suc (length made))
 added-length none = (omega arith, omega arith)
 added-length {made} (one {r} {b}) = let e = length-append made (r ∷ []) in (omega arith, omega arith)
-
--- A property of the rows made that the new row has too.
-pub added-each : (P : Row → Type 0) {made : List Row} {i : Image} {made′ : List Row} → Added made i made′ → EachRow P made → ((r : Row) (b : ℕ) → i ≡ newRow r b → P r) → EachRow P made′
-added-each P none e f = e
-added-each P {made} (one {r} {b}) e f = each-append P made (r ∷ []) e (each-one P r (f r b refl))
 
 -- The values w are those of the rows made: h is what a register holds, i the inputs.
 abbrev pub Satisfies : (ℕ → Bool) → (Row → Bool) → (ℕ → ℕ → Bool) → List Row → Type 0

@@ -37,6 +37,23 @@ marked-lt m j h = elim (decLt j (length m)) [
 ]
 
 module _ (m : List Bool) where
+  pub index-none : newIndex m 0 ≡ 0
+  unfolding newIndex
+  index-none = refl
+
+  pub index-suc : (n : ℕ) → newIndex m (suc n) ≡ newIndex m n + cond (isMarked m n) 1 0
+  unfolding newIndex
+  index-suc n = go (isMarked m n)
+    where
+      go : (t : Bool) → cond t (suc (newIndex m n)) (newIndex m n) ≡ newIndex m n + cond t 1 0
+      go true = omega arith
+      go false = omega arith
+
+  pub index-le : (n : ℕ) → newIndex m n ≤ n
+  unfolding newIndex
+  index-le zero = omega arith
+  index-le (suc n) = cond-case (λ k. k ≤ suc n) (isMarked m n) (suc (newIndex m n)) (newIndex m n) (λ _. omega (arith, index-le n)) (λ _. omega (arith, index-le n))
+
   index-marked : (n : ℕ) → isMarked m n ≡ true → newIndex m (suc n) ≡ suc (newIndex m n)
   unfolding newIndex
   index-marked n h = rw h

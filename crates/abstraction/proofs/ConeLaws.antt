@@ -12,6 +12,8 @@ use lib.Seq.{getD-set-same, getD-set-other}
 use borrow.Author.Tests.{eqb-true, eq-eqb}
 use lib.Dec.{eqb}
 use Rattle.memory.proofs.TestLaws.{cond-case, or-case, last-or}
+use Rattle.memory.specs.Lists.{countIf}
+use Rattle.memory.proofs.ListLaws.{count-le}
 use Rattle.netlist.specs.Rows.{Row, rowAt, kindOf, isOutput}
 use Rattle.abstraction.specs.Compaction.{faninNodes, isConeRoot, isMarked, markAll, equalMarks, markSweep, markFixpoint, coneOfInfluence, Among, here, there, Reached, row-zero, shown, named}
 use Rattle.abstraction.proofs.CompactionLaws.{AllMarked, ClosedUnderFanin, marked-lt}
@@ -48,45 +50,34 @@ markAll-marks m (j ∷ js) h =
     (markAll-keeps (set m j true) js j (getD-set-same m j true false (h .0)), markAll-marks (set m j true) js (rw (length-set m j true) (h .1)))
 
 -- How many are marked.
-marks : List Bool → ℕ
-marks [] = zero
-marks (true ∷ m) = suc (marks m)
-marks (false ∷ m) = marks m
-
-count-le : (m : List Bool) → marks m ≤ length m
-unfolding marks
-count-le [] = omega arith
-count-le (true ∷ m) = omega (arith, count-le m)
-count-le (false ∷ m) = omega (arith, count-le m)
+abbrev marks : List Bool → ℕ
+marks = countIf (λ b. b)
 
 count-full : (m : List Bool) → length m ≤ marks m → (j : ℕ) → j < length m → isMarked m j ≡ true
-unfolding marks
 count-full [] h j l = absurd (omega arith)
 count-full (true ∷ m) h zero l = refl
 count-full (true ∷ m) h (suc j) l = count-full m (omega arith) j (omega arith)
-count-full (false ∷ m) h j l = absurd (omega (arith, count-le m))
+count-full (false ∷ m) h j l = absurd (omega (arith, count-le (λ b. b) m))
 
 keeps-tail : (a b : Bool) (m m′ : List Bool) → MarksOf (a ∷ m) (b ∷ m′) → MarksOf m m′
 keeps-tail a b m m′ s j h = s (suc j) h
 
 count-keeps : (m m′ : List Bool) → length m ≡ length m′ → MarksOf m m′ → marks m ≤ marks m′
-unfolding marks
 count-keeps [] m′ e s = omega arith
 count-keeps (a ∷ m) [] e s = absurd (omega arith)
 count-keeps (true ∷ m) (true ∷ m′) e s = omega (arith, count-keeps m m′ (omega arith) (keeps-tail true true m m′ s))
 count-keeps (true ∷ m) (false ∷ m′) e s = absurd (false≢true (s 0 refl))
 count-keeps (false ∷ m) (true ∷ m′) e s = omega (arith, count-keeps m m′ (omega arith) (keeps-tail false true m m′ s))
-count-keeps (false ∷ m) (false ∷ m′) e s = count-keeps m m′ (omega arith) (keeps-tail false false m m′ s)
+count-keeps (false ∷ m) (false ∷ m′) e s = omega (arith, count-keeps m m′ (omega arith) (keeps-tail false false m m′ s))
 
 count-more : (m m′ : List Bool) → length m ≡ length m′ → MarksOf m m′ → equalMarks m m′ ≡ false → marks m < marks m′
-unfolding marks
 count-more [] [] e s d = absurd (true≢false d)
 count-more [] (b ∷ m′) e s d = absurd (omega arith)
 count-more (a ∷ m) [] e s d = absurd (omega arith)
 count-more (true ∷ m) (true ∷ m′) e s d = omega (arith, count-more m m′ (omega arith) (keeps-tail true true m m′ s) d)
 count-more (true ∷ m) (false ∷ m′) e s d = absurd (false≢true (s 0 refl))
 count-more (false ∷ m) (true ∷ m′) e s d = omega (arith, count-keeps m m′ (omega arith) (keeps-tail false true m m′ s))
-count-more (false ∷ m) (false ∷ m′) e s d = count-more m m′ (omega arith) (keeps-tail false false m m′ s) d
+count-more (false ∷ m) (false ∷ m′) e s d = omega (arith, count-more m m′ (omega arith) (keeps-tail false false m m′ s) d)
 
 equalMarks-true : (m m′ : List Bool) → equalMarks m m′ ≡ true → m ≡ m′
 equalMarks-true [] [] h = refl

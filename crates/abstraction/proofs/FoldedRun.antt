@@ -1,6 +1,6 @@
 -- The folded netlist beside the original, for runs that agree on what is kept at every step; and where its rows come from.
 -- Assumes nothing.
-use Prim.Native.Nat.{ℕ, suc, _+_, _*_, _<_, _≤_, _%_}
+use Prim.Native.Nat.{ℕ, suc, _+_, _*_, _<_, _%_}
 use mathlib.Core.Path.{_≡_, refl, sym, ap, _∙_, subst}
 use mathlib.Core.Bool.{Bool, true, false, false≢true}
 use mathlib.Core.List.{List}
@@ -13,7 +13,7 @@ use Rattle.ternary.proofs.RuleLaws.{Covers}
 use Rattle.netlist.specs.Rows.{Row, constant, input, register, andGate, xorGate, muxGate, output, encodeRow, rowAt, kindOf, nameOf, labelOf, phaseOf, hasName, isRegister, isOutput, onRegister, onOutput, mapLiterals}
 use Rattle.netlist.specs.Simulation.{boolLogic, valueAt, runState, runValue}
 use Rattle.netlist.proofs.RowLaws.{SameName, named-alike, RowIn}
-use Rattle.netlist.proofs.WellFormed.{OperandsBelow, Ordered, NextBelow, WellFormed}
+use Rattle.netlist.proofs.WellFormed.{OperandsBelow, Ordered, NextBelow, WellFormed, next-wider}
 use Rattle.netlist.proofs.SimulationLaws.{held, state-at}
 use Rattle.abstraction.specs.Unrolling.{imageLiteral, patchNext, unrollPhases, unrolledNetlist}
 use Rattle.abstraction.specs.Compaction.{faninNodes, isConeRoot, isMarked, coneOfInfluence, newIndex, renumberLiteral}
@@ -83,15 +83,6 @@ module _ (clock : ℕ → ℕ → Ternary) (rows : List Row) (M : ℕ) where
   patch-next (xorGate _ _) = tt
   patch-next (muxGate _ _ _) = tt
   patch-next (output _ _ _) = tt
-
-  next-wider : (m n : ℕ) → m ≤ n → (r : Row) → NextBelow m r → NextBelow n r
-  next-wider m n h constant b = tt
-  next-wider m n h (input _ _) b = tt
-  next-wider m n h (register _ _ _) b = omega (arith, b)
-  next-wider m n h (andGate _ _) b = tt
-  next-wider m n h (xorGate _ _) b = tt
-  next-wider m n h (muxGate _ _ _) b = tt
-  next-wider m n h (output _ _ _) b = tt
 
   pub whole-next : (j : ℕ) → j < length whole → NextBelow (length made) (rowAt whole j)
   whole-next j h = elim (decLt j (length made)) [

@@ -2,24 +2,23 @@
 -- Assumes nothing.
 use Prim.Native.Nat.{ℕ, zero, suc, _+_, _-_, _*_, _<_, _≤_}
 use mathlib.Core.Path.{_≡_, refl, sym, ap, _∙_, subst}
-use mathlib.Core.Bool.{Bool, false, cond, true≢false}
+use mathlib.Core.Bool.{false, cond, true≢false}
 use mathlib.Core.List.{List, [], _∷_, map}
 use native.Mathlib.Omega.{arith}
 use native.Mathlib.Nat.{suc-mul, mul-le-mul, mul-add, le-refl}
 use lib.Dec.{eqb}
 use lib.ListN.{length, getD, length-append, length-map}
 use Rattle.memory.specs.Lists.{joinBelow}
-use Rattle.memory.proofs.TestLaws.{cond-case}
 use Rattle.ternary.specs.Ternary.{Ternary}
 use Rattle.netlist.specs.Limits.{mostPhases, mostOriginalRows, mostFoldedRows}
 use Rattle.netlist.specs.Rows.{Row, constant, input, register, andGate, xorGate, muxGate, output, rowAt, kindOf, isOutput}
 use Rattle.abstraction.specs.GateMaking.{Image}
 use Rattle.abstraction.specs.Unrolling.{phaseOutput, patchNext, unrollPhases, phaseOutputs, unrolledNetlist}
-use Rattle.abstraction.specs.Compaction.{isConeRoot, isMarked, coneOfInfluence, newIndex, compact}
+use Rattle.abstraction.specs.Compaction.{isConeRoot, coneOfInfluence, compact}
 use Rattle.abstraction.specs.Fold.{foldWith}
 use Rattle.abstraction.proofs.BuilderLaws.{NewRow, ImageOver, Added, none, one}
 use Rattle.abstraction.proofs.UnrollLaws.{unroll-keeps}
-use Rattle.abstraction.proofs.CompactionLaws.{compact-length}
+use Rattle.abstraction.proofs.CompactionLaws.{compact-length, index-le}
 
 -- How many nodes a row can make in a phase, and how many outputs it gives.
 pub makes : Row → ℕ
@@ -119,12 +118,6 @@ module _ (rows : List Row) where
           outputs-total N,
           mul-add N (total makes (length rows)) (total gives (length rows)),
         )
-
--- How many rows stay.
-index-le : (m : List Bool) (n : ℕ) → newIndex m n ≤ n
-unfolding newIndex
-index-le m zero = omega arith
-index-le m (suc n) = cond-case (λ (k : ℕ). k ≤ suc n) (isMarked m n) _ _ (λ _. omega (arith, index-le m n)) (λ _. omega (arith, index-le m n))
 
 -- The folded netlist's row count.
 pub fold-length : (clock : ℕ → ℕ → Ternary) (rows : List Row) (N : ℕ) → rowAt rows 0 ≡ constant → 0 < length rows → length (foldWith clock rows N) ≤ 1 + N * (length rows - 1)

@@ -1,35 +1,31 @@
 -- The rows of a file as the code reads them, and where they stand in a file that Check accepts.
 -- Assumes nothing.
-use Prim.Native.Nat.{ℕ, zero, suc, _-_, _<_, _≤_}
+use Prim.Native.Nat.{ℕ, zero, suc, _<_, _≤_}
 use mathlib.Core.Path.{_≡_, refl, sym, ap, _∙_}
 use mathlib.Core.Bool.{true}
 use mathlib.Core.List.{List}
 use native.Mathlib.Omega.{arith}
-use lib.ListN.{length, length-map, List·getD-map}
+use lib.ListN.{length, length-map}
 use lib.Dec.{eqb}
 use borrow.Author.Tests.{ne-eqb}
 use Rattle.memory.specs.Fields.{byteAt}
 use Rattle.netlist.specs.Limits.{mostRows}
-use Rattle.netlist.specs.Rows.{RowFields, encodeRow, decodeRow, rowFromFields, rowAt, constant, kindOf, isOutput}
+use Rattle.netlist.specs.Rows.{RowFields, decodeRow, rowFromFields, rowAt, kindOf, isOutput}
 use Rattle.netlist.specs.FileFormat.{blockCount, blockAt, rowOffset, readFields, rowCount, fieldsOf, netlistOf}
-use Rattle.netlist.proofs.FileLaws.{block-at, read-length, read-at}
+use Rattle.netlist.proofs.FileLaws.{read-length, row-at}
 use Rattle.questions.specs.Questions.{noRefusal, lengthRight, namesEarlier, fileRefusal}
 use Rattle.questions.proofs.QuestionLaws.{number-none, items-none}
 use Rattle.questions.proofs.PlainWords.{LengthWords, lengthRight-iff, BlockWords}
 use Rattle.questions.proofs.AcceptedFiles.{FileRight, file-right, block-right}
+use Rattle.blockfile.proofs.ReadyLaws.{last-count}
 use Rattle.accept.specs.Refusals.{blockAsked, blocksRefusal}
 use Rattle.accept.specs.RowChecks.{BlocksRight, RowsOf}
 
 -- ---- rows read from bytes
 
-module _ (f : List ℕ) where
-  pub fields-length : length (fieldsOf f) ≡ rowCount f
-  unfolding netlistOf
-  fields-length = sym (length-map (fieldsOf f) decodeRow) ∙ read-length f
-
-  pub row-at : (i : ℕ) → i < rowCount f → rowAt (netlistOf f) i ≡ decodeRow (readFields f i)
-  unfolding netlistOf
-  row-at i h = List·getD-map decodeRow (fieldsOf f) i (encodeRow constant) ∙ ap decodeRow (read-at f i h)
+pub fields-length : (f : List ℕ) → length (fieldsOf f) ≡ rowCount f
+unfolding netlistOf
+fields-length f = sym (length-map (fieldsOf f) decodeRow) ∙ read-length f
 
 -- A row is of kind k, 1 to 6, exactly if its field says so.
 pub kind-field : (w : RowFields) (k : ℕ) → 0 < k → k ≤ 6 → eqb (kindOf (decodeRow w)) k ≡ eqb (w .kind) k
@@ -55,10 +51,8 @@ output-at f i h = ap isOutput (row-at f i h) ∙ output-kind (readFields f i)
 
 last-block : (f : List ℕ) → LengthWords f → ((B : ℕ) → B < blockCount f → BlockWords (blockCount f) B (blockAt f B)) → BlocksRight f
 last-block f w blocks =
-    let k = blockCount f in
-    let n = blocks (k - 1) (omega (arith, w .some-blocks)) .count-last (omega (arith, w .some-blocks)) in
-    let e = block-at f (k - 1) 2 (omega arith) in
-    record { whole = w .whole; some = w .some-blocks; few = w .few-blocks; last-some = omega (arith, n .0, e); last-most = omega (arith, n .1, e) }
+    let n = last-count f w blocks in
+    record { whole = w .whole; some = w .some-blocks; few = w .few-blocks; last-some = n .0; last-most = n .1 }
 
 pub blocks-right : (f : List ℕ) → lengthRight f ≡ true → blocksRefusal f ≡ noRefusal → BlocksRight f
 blocks-right f l h =

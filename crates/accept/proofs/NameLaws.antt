@@ -13,8 +13,9 @@ use Rattle.memory.proofs.TestLaws.{not-both, fails}
 use Rattle.memory.proofs.ListLaws.{allBelow-at}
 use Rattle.netlist.specs.Rows.{RowFields, Row, decodeRow, rowAt, labelOf, phaseOf, isNamed}
 use Rattle.netlist.specs.FileFormat.{readFields, rowCount, netlistOf}
+use Rattle.netlist.proofs.FileLaws.{row-at}
 use Rattle.questions.specs.Questions.{sameName, labelIsNew}
-use Rattle.accept.proofs.AcceptedRows.{row-at, kind-field}
+use Rattle.accept.proofs.AcceptedRows.{kind-field}
 use Rattle.accept.proofs.RowCheckLaws.{and-yes}
 
 -- ---- two rows, by the kind of the first

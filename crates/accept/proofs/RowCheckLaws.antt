@@ -16,7 +16,7 @@ use Rattle.memory.proofs.TestLaws.{and-true, not-both, passes, fails, not-iff}
 use Rattle.memory.proofs.ListLaws.{allBelow-at, allBelow-of, count-pos, count-some}
 use Rattle.netlist.specs.Rows.{Row, RowFields, constant, rowFromFields, decodeRow, rowAt, labelOf, hasName, isOutput}
 use Rattle.netlist.specs.FileFormat.{rowOffset, readFields, rowCount, fieldsOf, fieldsAt, netlistOf}
-use Rattle.netlist.proofs.FileLaws.{read-length, read-at, file-labels}
+use Rattle.netlist.proofs.FileLaws.{read-length, read-at, file-labels, row-at}
 use Rattle.questions.specs.Questions.{Refusal, noRefusal, firstRefusal, question, itemQuestions, kindRight, fieldsRight, labelIsNew, namesNode, namesEarlier, literalsRight, rowQuestions, rowsRefusal}
 use Rattle.questions.proofs.QuestionLaws.{list-next, number-none, items-yes, list-stop}
 use Rattle.questions.proofs.PlainWords.{fieldsRight-iff}
@@ -31,7 +31,7 @@ use Rattle.accept.specs.Refusals.{refusalIn, acceptRefusal, refusalAt}
 use Rattle.accept.specs.RowChecks.{RowsOf, onlyNodes, TestsOf}
 use Rattle.accept.specs.Marks.{labels, allSlots, slotOf, markBytes, MarksOf}
 use Rattle.accept.proofs.RefusalLaws.{number-positive, items-stop, items-again}
-use Rattle.accept.proofs.AcceptedRows.{fields-length, row-at, output-kind, output-at}
+use Rattle.accept.proofs.AcceptedRows.{fields-length, output-kind, output-at}
 use Rattle.accept.proofs.MarkLaws.{slot-small, marks-none}
 
 -- ---- question 9's nodes

@@ -14,7 +14,7 @@ use Rattle.memory.proofs.ListLaws.{join-length, join-at}
 use Rattle.netlist.specs.Rows.{Row, encodeRow, rowAt}
 use Rattle.netlist.specs.FileFormat.{lastMark, wordSum, rightSum, blockAt, rowOffset, netlistOf, rowBytes, blockBody, checkWord, blockBytes, blockRows, blocksFor, fileOf}
 use Rattle.netlist.proofs.RowLaws.{EachRow}
-use Rattle.netlist.proofs.FileLaws.{FieldsFit, sum-suc, sum-cong, block-at, block-length, block-back, part-length, part-at, file-length, read-back}
+use Rattle.netlist.proofs.FileLaws.{FieldsFit, sum-suc, sum-cong, block-at, block-back, part-length, part-at, file-length, read-back, body-length}
 use Rattle.blockfile.specs.RowsStand.{RowsStand}
 
 -- ---- sums
@@ -59,10 +59,6 @@ rows-joined rs p sized few stand =
         ∙ ap (byteAt (rowsBytes rs)) y
 
 module _ (k B n : ℕ) (p : List ℕ) (sized : length p ≡ 512) (few : n ≤ 63) (rs : List Row) (count : length rs ≡ n) (stand : RowsStand rs p) where
-  body-length : length (blockBody k B rs) ≡ 508
-  unfolding blockBytes
-  body-length = omega (arith, length-append (blockBody k B rs) (u32Bytes (checkWord (blockBody k B rs))), block-length k B rs (omega arith))
-
   -- Headed and cleared: the body, and four zeros where the check comes.
   cleared-is : (m : ℕ) (q r : List ℕ) → m ≡ lastMark k B → q ≡ sets p 0 (m ∷ B ∷ n ∷ 0 ∷ []) → r ≡ take (4 + 8 * n) q ++ replicate (length q - (4 + 8 * n)) 0 → r ≡ blockBody k B rs ++ replicate 4 0
   unfolding blockBody
@@ -79,10 +75,11 @@ module _ (k B n : ℕ) (p : List ℕ) (sized : length p ≡ 512) (few : n ≤ 63
   unfolding blockBytes
   checked-is r s e f =
       let b = blockBody k B rs in
-      let m : length r ≡ 512 = ap length e ∙ simp length-append (omega (arith, body-length)) in
-      let t : take 508 r ≡ b = ap (take 508) e ∙ take-at b (replicate 4 0) 508 body-length in
+      let l : length b ≡ 508 = body-length k B rs (omega arith) in
+      let m : length r ≡ 512 = ap length e ∙ simp length-append (omega arith) in
+      let t : take 508 r ≡ b = ap (take 508) e ∙ take-at b (replicate 4 0) 508 l in
       let d : drop 512 r ≡ [] = drop-of-length-le r {i = 512} (omega arith) in
-      let c : checkWord r ≡ checkWord b = ap checkWord e ∙ check-front b (replicate 4 0) body-length in
+      let c : checkWord r ≡ checkWord b = ap checkWord e ∙ check-front b (replicate 4 0) l in
       f ∙ sets-eq (u32Bytes (checkWord r)) r 508 (omega arith) ∙ rw (t, d, c) (append-nil (b ++ u32Bytes (checkWord b)))
 
   pub block-written : (m : ℕ) (q r s : List ℕ) → m ≡ lastMark k B → q ≡ sets p 0 (m ∷ B ∷ n ∷ 0 ∷ []) → r ≡ take (4 + 8 * n) q ++ replicate (length q - (4 + 8 * n)) 0 → s ≡ sets r 508 (u32Bytes (checkWord r)) → s ≡ blockBytes k B rs

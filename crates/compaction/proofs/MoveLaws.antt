@@ -19,7 +19,7 @@ use Rattle.netlist.specs.FileFormat.{rowOffset, readFields, fieldBytes, rowByte
 use Rattle.netlist.proofs.RowLaws.{decode-row}
 use Rattle.netlist.proofs.FileLaws.{fields-read}
 use Rattle.abstraction.specs.Compaction.{isMarked, coneOfInfluence, newIndex, renumberLiteral, compactUpTo, compact}
-use Rattle.abstraction.proofs.CompactionLaws.{renumbered, compact-length}
+use Rattle.abstraction.proofs.CompactionLaws.{renumbered, compact-length, index-none, index-suc, index-le}
 use Rattle.blockfile.specs.RowCode.{fieldsIn, Small}
 use Rattle.blockfile.specs.RowsStand.{RowsStand}
 use Rattle.blockfile.proofs.StandLaws.{row-room, row-next, stand-more}
@@ -27,7 +27,7 @@ use Rattle.compaction.specs.Compactable.{Compactable, heldRow, heldRows,
 use Rattle.compaction.specs.Slots.{slotAt, markAt, bitOf, Numbered}
 use Rattle.compaction.specs.Moves.{literalCount, renumberFields, renumberIn, moveRow, RowKept, Movable, MovedTo}
 use Rattle.compaction.proofs.KindLaws.{encode-map, map-same}
-use Rattle.compaction.proofs.SlotLaws.{bit-le, index-none, index-suc, index-le}
+use Rattle.compaction.proofs.SlotLaws.{bit-le}
 
 -- ---- a row renumbered by the code
 

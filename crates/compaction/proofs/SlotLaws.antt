@@ -3,7 +3,7 @@
 use Prim.Native.Nat.{ℕ, zero, suc, _+_, _-_, _*_, _<_, _≤_, _/_, _%_, _^_}
 use mathlib.Core.Path.{_≡_, refl, sym, ap, _∙_}
 use mathlib.Core.Logic.{_≢_}
-use mathlib.Core.Bool.{Bool, true, false, cond, true≢false}
+use mathlib.Core.Bool.{Bool, true, false, true≢false}
 use mathlib.Core.List.{List, [], _∷_, _++_}
 use native.Mathlib.Omega.{arith}
 use native.Mathlib.Decide.{ℕ-discrete}
@@ -17,11 +17,12 @@ use Rattle.memory.specs.Lists.{tabulate, countIf}
 use Rattle.memory.specs.Fields.{byteAt, u16Bytes}
 use Rattle.memory.specs.Frames.{KeptOutside}
 use Rattle.memory.proofs.TestLaws.{last-or}
-use Rattle.memory.proofs.ListLaws.{tabulate-length, tabulate-at, count-last}
+use Rattle.memory.proofs.ListLaws.{tabulate-length, tabulate-at, count-last, count-le}
 use Rattle.memory.proofs.FieldLaws.{zeros-at}
 use Rattle.memory.proofs.FrameLaws.{u16-kept, kept-sets, u16-back}
 use Rattle.netlist.specs.Limits.{mostFoldedRows, foldWorkBytes}
 use Rattle.abstraction.specs.Compaction.{isMarked, markAll, newIndex}
+use Rattle.abstraction.proofs.CompactionLaws.{index-none, index-suc, index-le}
 use Rattle.compaction.specs.Slots.{slotsStart, slotsEnd, slotAt, setSlot, markAt, marksIn, foundAt, RowMarked, RowListed, Found, Pushed, bitOf, numberOf, Numbered}
 
 -- ---- a slot
@@ -86,11 +87,6 @@ module _ (w w′ : List ℕ) (j v : ℕ) (room : 2 * j + 2 ≤ length w) where
 
 -- ---- counts of marks
 
-count-le : (m : List Bool) → countIf (λ b. b) m ≤ length m
-count-le [] = omega arith
-count-le (true ∷ m) = omega (arith, count-le m)
-count-le (false ∷ m) = omega (arith, count-le m)
-
 count-set : (m : List Bool) (j : ℕ) → j < length m → isMarked m j ≡ false → countIf (λ b. b) (set m j true) ≡ suc (countIf (λ b. b) m)
 count-set [] j h e = absurd (omega arith)
 count-set (true ∷ m) zero h e = absurd (true≢false e)
@@ -116,7 +112,7 @@ found-none w n h = record {
 
 module _ (w : List ℕ) (n t : ℕ) (F : Found w n t) where
   pub found-le : t ≤ n
-  found-le = omega (arith, F .counted, count-le (marksIn w n), tabulate-length n (markAt w))
+  found-le = omega (arith, F .counted, count-le (λ b. b) (marksIn w n), tabulate-length n (markAt w))
 
   pub pushed-none : Pushed w n t [] w t
   pushed-none = record { found = F; more = omega arith; before = λ k h. refl; marks = refl }
@@ -141,7 +137,7 @@ module _ (w : List ℕ) (n t : ℕ) (F : Found w n t) where
       counted-more = count-set (marksIn w n) j (rw (tabulate-length n (markAt w)) h) (marked-in w n j h ∙ e) ∙ ap suc (sym (F .counted))
 
       pub found-room : t < n
-      found-room = omega (arith, counted-more, count-le (set (marksIn w n) j true), length-set (marksIn w n) j true, tabulate-length n (markAt w))
+      found-room = omega (arith, counted-more, count-le (λ b. b) (set (marksIn w n) j true), length-set (marksIn w n) j true, tabulate-length n (markAt w))
 
       module _ (w₁ w₂ : List ℕ) (M : RowMarked w j w₁) (L : RowListed w₁ t j w₂) where
         now-marked : (x : ℕ) → x ≡ j → markAt w₂ x ≡ true
@@ -195,23 +191,6 @@ pushed-cons w w₁ w₂ n t t₁ t₂ j js P Q = record {
 pub bit-le : (t : Bool) → bitOf t ≤ 1
 bit-le true = omega arith
 bit-le false = omega arith
-
-module _ (m : List Bool) where
-  pub index-none : newIndex m 0 ≡ 0
-  unfolding newIndex
-  index-none = refl
-
-  pub index-suc : (i : ℕ) → newIndex m (suc i) ≡ newIndex m i + bitOf (isMarked m i)
-  unfolding newIndex
-  index-suc i = go (isMarked m i)
-    where
-      go : (t : Bool) → cond t (suc (newIndex m i)) (newIndex m i) ≡ newIndex m i + bitOf t
-      go true = omega arith
-      go false = omega arith
-
-  pub index-le : (i : ℕ) → newIndex m i ≤ i
-  index-le zero = omega (arith, index-none)
-  index-le (suc i) = omega (arith, index-suc i, index-le i, bit-le (isMarked m i))
 
 -- The slots before i have their numbers, and the others are as they were.
 pub record Numbering (w₀ w : List ℕ) (n i t : ℕ) : Type 0 where

@@ -11,9 +11,10 @@ use borrow.Author.Tests.{eq-eqb, ne-eqb}
 use Rattle.memory.specs.Fields.{byteAt, u16At}
 use Rattle.ternary.specs.Ternary.{lo, hi, X}
 use Rattle.netlist.specs.Limits.{mostOriginalRows}
-use Rattle.netlist.specs.Rows.{constant, input, register, RowFields, rowFromFields, decodeRow, rowAt}
+use Rattle.netlist.specs.Rows.{input, register, RowFields, rowFromFields, decodeRow, rowAt}
 use Rattle.netlist.specs.FileFormat.{readFields, netlistOf}
 use Rattle.netlist.proofs.WellFormed.{OperandsBelow, NextBelow}
+use Rattle.netlist.proofs.RowLaws.{other-kind}
 use Rattle.abstraction.specs.GateMaking.{complement, newRow, makeAnd, makeXor, makeMux}
 use Rattle.abstraction.specs.Unrolling.{complementBy, imageLiteral, registerImage, rowImage}
 use Rattle.gates.specs.declared.MadeImage.{MadeImage}
@@ -61,17 +62,6 @@ module _ (w : List ℕ) (i k s a b : ℕ) where
   register-known c p e n h = rw (ne-eqb (byteAt w (knownPlace i)) 0 p, ← e) (known-bit c k (imagesIn w (k - 1) n) s a b (omega arith))
 
 -- ---- a row
-
--- Fields of a kind above 6.
-no-kind : (d s a b c : ℕ) → (d ≡ 0 → ⊥) → (d ≡ 1 → ⊥) → (d ≡ 2 → ⊥) → (d ≡ 3 → ⊥) → (d ≡ 4 → ⊥) → (d ≡ 5 → ⊥) → (d ≡ 6 → ⊥) → rowFromFields d s a b c ≡ constant
-no-kind zero s a b c n0 n1 n2 n3 n4 n5 n6 = refl
-no-kind (suc zero) s a b c n0 n1 n2 n3 n4 n5 n6 = absurd (n1 refl)
-no-kind (suc (suc zero)) s a b c n0 n1 n2 n3 n4 n5 n6 = absurd (n2 refl)
-no-kind (suc (suc (suc zero))) s a b c n0 n1 n2 n3 n4 n5 n6 = absurd (n3 refl)
-no-kind (suc (suc (suc (suc zero)))) s a b c n0 n1 n2 n3 n4 n5 n6 = absurd (n4 refl)
-no-kind (suc (suc (suc (suc (suc zero))))) s a b c n0 n1 n2 n3 n4 n5 n6 = absurd (n5 refl)
-no-kind (suc (suc (suc (suc (suc (suc zero)))))) s a b c n0 n1 n2 n3 n4 n5 n6 = absurd (n6 refl)
-no-kind (suc (suc (suc (suc (suc (suc (suc d))))))) s a b c n0 n1 n2 n3 n4 n5 n6 = refl
 
 -- The fields of row i of the file.
 module _ (f : List ℕ) (i : ℕ) (O : Original f) (h : i < length (netlistOf f)) (d s a b c : ℕ) (e : _≡_ {A = RowFields} (record { kind = d; reset = s; a = a; b = b; c = c }) (readFields f i)) where
@@ -159,4 +149,4 @@ module _ (f : List ℕ) (i : ℕ) (O : Original f) (h : i < length (netlistOf f)
     image-output x q rx = rw (row-is, q) (ap Kept (rx i (output-names q)))
 
     pub image-none : (d ≡ 0 → ⊥) → (d ≡ 1 → ⊥) → (d ≡ 2 → ⊥) → (d ≡ 3 → ⊥) → (d ≡ 4 → ⊥) → (d ≡ 5 → ⊥) → (d ≡ 6 → ⊥) → IsImage (Kept 0)
-    image-none n0 n1 n2 n3 n4 n5 n6 = rw (row-is, no-kind d s a b c n0 n1 n2 n3 n4 n5 n6)
+    image-none n0 n1 n2 n3 n4 n5 n6 = rw (row-is, other-kind d s a b c n0 n1 n2 n3 n4 n5 n6)

@@ -9,27 +9,16 @@ use lib.ListN.{length, length-map, List·getD-map}
 use Rattle.memory.specs.Lists.{joinBelow}
 use Rattle.ternary.specs.Ternary.{Ternary}
 use Rattle.netlist.specs.Limits.{mostRows, mostPhases}
-use Rattle.netlist.specs.Rows.{Row, constant, input, register, andGate, xorGate, muxGate, output, encodeRow, rowAt, labelOf, phaseOf, hasName}
+use Rattle.netlist.specs.Rows.{Row, constant, rowAt, labelOf, phaseOf, hasName}
 use Rattle.netlist.proofs.RowLaws.{EachRow, each-append, unnamed}
-use Rattle.netlist.proofs.FileLaws.{FieldsFit}
 use Rattle.netlist.proofs.WellFormed.{AcceptedRows}
+use Rattle.netlist.proofs.FileLaws.{row-fits}
 use Rattle.abstraction.specs.Unrolling.{patchNext, unrollPhases, phaseOutputs, unrolledNetlist}
-use Rattle.abstraction.specs.Compaction.{faninNodes}
-use Rattle.abstraction.proofs.ConeLaws.{EachBelow}
 use Rattle.abstraction.proofs.Provenance.{Sourced, phase-before, unroll-named, outputs-named}
-use Rattle.abstraction.proofs.FoldedRun.{patch-alike, whole-fanin}
+use Rattle.abstraction.proofs.FoldedRun.{patch-alike, whole-fanin, whole, made, ordered, whole-next}
+use Rattle.abstraction.proofs.UnrolledRun.{length-whole}
 use Rattle.compaction.specs.Compactable.{Compactable}
 use Rattle.fold.proofs.UnrollFacts.{netlist-few}
-
--- A row whose literals name rows below m, and whose label and phase are in range.
-row-fits : (m : ℕ) → m ≤ mostRows → (r : Row) → EachBelow m (faninNodes r) → labelOf r < 2 ^ 16 → phaseOf r < mostPhases → FieldsFit (encodeRow r)
-row-fits m h constant b l p = record { a-fits = omega arith; b-fits = omega arith; c-fits = omega arith }
-row-fits m h (input _ _) b l p = record { a-fits = l; b-fits = omega (arith, p); c-fits = omega arith }
-row-fits m h (register _ _ _) b l p = record { a-fits = omega (arith, b .0); b-fits = l; c-fits = omega arith }
-row-fits m h (andGate _ _) b l p = record { a-fits = omega (arith, b .0); b-fits = omega (arith, b .1 .0); c-fits = omega arith }
-row-fits m h (xorGate _ _) b l p = record { a-fits = omega (arith, b .0); b-fits = omega (arith, b .1 .0); c-fits = omega arith }
-row-fits m h (muxGate _ _ _) b l p = record { a-fits = omega (arith, b .0); b-fits = omega (arith, b .1 .0); c-fits = omega (arith, b .1 .1 .0) }
-row-fits m h (output _ _ _) b l p = record { a-fits = omega (arith, b .0); b-fits = l; c-fits = omega (arith, p) }
 
 -- Label and phase are in range.
 abbrev NameFits : Row → Type 0
@@ -55,17 +44,20 @@ module _ (clock : ℕ → ℕ → Ternary) (rows : List Row) (labels : EachRow (
       rw (List·getD-map (patchNext (q .images)) (q .made) i constant) (omega (arith, a .label, f .0), omega (arith, a .phase, f .1)))
       (λ i h. sourced-fits (rowAt (joinBelow N (phaseOutputs clock rows)) i) (outputs-named rows clock N .sourced i h))
 
-  module _ (ok : AcceptedRows rows) (some : 1 ≤ N) where
-    fanin-inside : (j : ℕ) → j < length (unrolledNetlist clock rows N) → EachBelow (length (unrolledNetlist clock rows N)) (faninNodes (rowAt (unrolledNetlist clock rows N) j))
-    fanin-inside =
-        let e : suc (N - 1) ≡ N = omega arith in
-        subst (λ (n : ℕ). (j : ℕ) → j < length (unrolledNetlist clock rows n) → EachBelow (length (unrolledNetlist clock rows n)) (faninNodes (rowAt (unrolledNetlist clock rows n) j))) e (whole-fanin clock rows (N - 1))
+module _ (clock : ℕ → ℕ → Ternary) (rows : List Row) (labels : EachRow (λ r. labelOf r < 2 ^ 16) rows) where
+  -- Of one phase or more.
+  whole-compactable : (M : ℕ) → suc M ≤ mostPhases → AcceptedRows rows → Compactable (whole clock rows M)
+  whole-compactable M few ok =
+      let n : length (whole clock rows M) ≤ mostRows = omega (arith, netlist-few clock rows ok (suc M) few) in
+      let m : length (made clock rows M) ≤ length (whole clock rows M) = length-whole clock rows (suc M) in
+      record {
+        fits = λ j h.
+            let f = names-fit clock rows labels (suc M) few j h in
+            row-fits j (length (made clock rows M)) (omega arith) (omega arith) (rowAt (whole clock rows M) j) (ordered clock rows M j h) (whole-next clock rows M j h) (f .0) (f .1);
+        inside = whole-fanin clock rows M;
+      }
 
-    pub unrolled-compactable : Compactable (unrolledNetlist clock rows N)
-    unrolled-compactable =
-        let whole = unrolledNetlist clock rows N in
-        let m : length whole ≤ mostRows = omega (arith, netlist-few clock rows ok N few) in
-        record {
-          fits = λ j h. row-fits (length whole) m (rowAt whole j) (fanin-inside j h) (names-fit j h .0) (names-fit j h .1);
-          inside = fanin-inside;
-        }
+  pub unrolled-compactable : (N : ℕ) → N ≤ mostPhases → AcceptedRows rows → 1 ≤ N → Compactable (unrolledNetlist clock rows N)
+  unrolled-compactable N few ok some =
+      let e : suc (N - 1) ≡ N = omega arith in
+      subst (λ (n : ℕ). Compactable (unrolledNetlist clock rows n)) e (whole-compactable (N - 1) (omega arith) ok)

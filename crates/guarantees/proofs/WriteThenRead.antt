@@ -1,21 +1,20 @@
 -- A netlist written and read again is the same netlist, and its file is accepted.
 -- Assumes nothing.
-use Prim.Native.Nat.{ℕ, suc, _+_, _*_, _<_, _≤_, _/_, _^_}
+use Prim.Native.Nat.{ℕ, suc, _+_, _*_, _<_, _≤_, _^_}
 use mathlib.Core.Path.{_≡_, ap, _∙_}
-use mathlib.Core.Bool.{true}
 use mathlib.Core.List.{List, map}
 use native.Mathlib.Omega.{arith}
 use native.Mathlib.Decide.{decLt}
-use lib.ListN.{length, length-map}
+use lib.ListN.{length}
 use Rattle.memory.specs.Fields.{IsBytes, byteAt}
-use Rattle.netlist.specs.Limits.{mostRows, mostPhases}
-use Rattle.netlist.specs.Rows.{Row, constant, input, register, andGate, xorGate, muxGate, output, encodeRow, rowAt, labelOf, phaseOf}
+use Rattle.netlist.specs.Limits.{mostRows}
+use Rattle.netlist.specs.Rows.{Row, constant, input, register, andGate, xorGate, muxGate, output, encodeRow, rowAt}
 use Rattle.netlist.specs.FileFormat.{blockCount, blockAt, blockRows, blocksFor, fieldsOf, netlistOf, fileOf}
 use Rattle.netlist.proofs.RowLaws.{decode-rows, EachRow}
-use Rattle.netlist.proofs.WellFormed.{ResetIn, NamesNode, OnLiterals}
-use Rattle.netlist.proofs.FileLaws.{FieldsFit, writtenBlock, block-head, block-unused, block-sum, part-small, part-length, file-length, file-blocks, block-back, fields-back, read-back, file-is-bytes}
-use Rattle.questions.specs.Questions.{noRefusal, namesEarlier, literalsRight, fileRefusal}
-use Rattle.questions.proofs.PlainWords.{LengthWords, BlockWords, literalsRight-iff, namesEarlier-iff}
+use Rattle.netlist.proofs.WellFormed.{ResetIn}
+use Rattle.netlist.proofs.FileLaws.{FieldsFit, writtenBlock, block-head, block-unused, block-sum, part-small, part-length, file-length, file-blocks, block-back, fields-back, read-back, file-is-bytes, row-fits}
+use Rattle.questions.specs.Questions.{noRefusal, namesEarlier, fileRefusal}
+use Rattle.questions.proofs.PlainWords.{LengthWords, BlockWords}
 use Rattle.questions.proofs.AcceptedFiles.{RowsRight, rows-right, file-yes, CheckedRows, rows-checked}
 use Rattle.guarantees.specs.RoundTrips.{Writable}
 
@@ -61,16 +60,6 @@ module _ (rs : List Row) (some-rows : 1 ≤ length rs) (few : length rs ≤ most
 
 -- ---- what fits
 
--- A row whose literals name rows below m, at most mostRows, with label and phase in range.
-row-fits : (m : ℕ) (P Q : ℕ → Type 0) → m ≤ mostRows → ((l : ℕ) → P l → l / 2 < m) → ((l : ℕ) → Q l → l / 2 < m) → (r : Row) → OnLiterals P Q r → labelOf r < 2 ^ 16 → phaseOf r < mostPhases → FieldsFit (encodeRow r)
-row-fits m P Q n f g constant w a p = record { a-fits = omega arith; b-fits = omega arith; c-fits = omega arith }
-row-fits m P Q n f g (input _ _) w a p = record { a-fits = a; b-fits = omega arith; c-fits = omega arith }
-row-fits m P Q n f g (register _ u _) w a p = record { a-fits = omega (arith, g u w); b-fits = a; c-fits = omega arith }
-row-fits m P Q n f g (andGate u v) w a p = record { a-fits = omega (arith, f u (w .0)); b-fits = omega (arith, f v (w .1)); c-fits = omega arith }
-row-fits m P Q n f g (xorGate u v) w a p = record { a-fits = omega (arith, f u (w .0)); b-fits = omega (arith, f v (w .1)); c-fits = omega arith }
-row-fits m P Q n f g (muxGate u v x) w a p = record { a-fits = omega (arith, f u (w .0 .0)); b-fits = omega (arith, f v (w .0 .1)); c-fits = omega (arith, f x (w .1)) }
-row-fits m P Q n f g (output u _ _) w a p = record { a-fits = omega (arith, g u w); b-fits = a; c-fits = omega arith }
-
 -- A reset in range is a byte.
 reset-small : (r : Row) → ResetIn r → encodeRow r .reset < 2 ^ 8
 reset-small constant h = omega arith
@@ -91,13 +80,8 @@ module _ (rows : List Row) (w : Writable rows) where
   some-rows : 1 ≤ length rows
   some-rows = omega (arith, checked .has-output .4)
 
-  literals : (i : ℕ) → i < length rows → OnLiterals (λ l. l / 2 < i) (NamesNode rows) (rowAt rows i)
-  literals i h =
-      let t : literalsRight namesEarlier rows i (rowAt rows i) ≡ true = rw (decode-rows rows) at (right .rows i (omega (arith, h, length-map rows encodeRow)) .literals) in
-      literalsRight-iff namesEarlier rows i (λ l. l / 2 < i) (namesEarlier-iff rows i) (rowAt rows i) .0 t
-
   fits : EachRow (λ r. FieldsFit (encodeRow r)) rows
-  fits i h = row-fits (length rows) (λ l. l / 2 < i) (NamesNode rows) (w .few) (λ l b. omega arith) (λ l n. n .0) (rowAt rows i) (literals i h) (w .labels i h) (checked .phases i h)
+  fits i h = row-fits i (length rows) (omega (arith, w .few)) (w .few) (rowAt rows i) (checked .ordered i h) (checked .nexts i h) (w .labels i h) (checked .phases i h)
 
   pub writable-read : netlistOf (fileOf rows) ≡ rows
   writable-read = read-back rows fits

@@ -19,7 +19,7 @@ use Rattle.memory.proofs.FieldLaws.{u16-read, u32-read}
 use Rattle.memory.proofs.BufferLaws.{sets-join}
 use Rattle.memory.proofs.FrameLaws.{kept-none, kept-join, kept-sets, sets-at}
 use Rattle.netlist.specs.Limits.{mostPhases, foldWorkBytes, foldClockEntries}
-use Rattle.netlist.specs.Rows.{Row, rowAt, labelOf, isRegister, decodeRow}
+use Rattle.netlist.specs.Rows.{Row, rowAt, labelOf, isRegister, decodeRow, constant}
 use Rattle.netlist.specs.FileFormat.{readFields, netlistOf}
 use Rattle.netlist.proofs.FileLaws.{file-labels}
 use Rattle.lasso.specs.Generators.{periodsOf, isUsed, usedCount, clockValue}
@@ -28,10 +28,10 @@ use Rattle.lasso.proofs.ClockLaws.{word-lt, entries-count}
 use Rattle.lasso.proofs.GeneratorLaws.{periods-length}
 use Rattle.blockfile.specs.RowCode.{fieldsIn}
 use Rattle.blockfile.specs.declared.Fields.{Fields}
+use Rattle.blockfile.proofs.CountLaws.{count-next, count-place, count-some-le}
 use Rattle.lasso_finder.specs.WorkMap.{knownPlace, entryPlace, entryIn, entriesIn}
 use Rattle.lasso_finder.specs.StateMap.{Ready, registersBefore, AtRow}
 use Rattle.lasso_finder.specs.Stages.{lassoIn, periodAt, knownBytes, KnownPart, entryBytes, KnownRegisters, EntryReady, entryPut, entryFrom, entriesFrom, EntryPart}
-use Rattle.lasso_finder.proofs.RegisterLaws.{before-step, before-lt, before-le}
 use Rattle.lasso_finder.proofs.StepLaws.{row-within, register-is, register-at}
 use Rattle.lasso_finder.proofs.KnownLaws.{known-first, is-register, positive}
 
@@ -132,7 +132,7 @@ module _ {f : List ℕ} {n : ℕ} (R : Ready f n) {w w′ : List ℕ} {i e : ℕ
   none-more : byteAt w (knownPlace i) ≡ 0 → EntryPart (netlistOf f) w w′ (i + 1) e
   none-more z = record {
     entries = E .entries ∙ sym (from-none (netlistOf f) w i z);
-    few = let s = before-step (netlistOf f) i inside in let h = E .few in omega arith;
+    few = let s = count-next isRegister constant (netlistOf f) i inside in let h = E .few in omega arith;
     kept = E .kept;
   }
 
@@ -142,14 +142,14 @@ module _ {f : List ℕ} {n : ℕ} (R : Ready f n) {w w′ : List ℕ} {i e : ℕ
 
   module _ (known : byteAt w (knownPlace i) ≡ 0 → ⊥) (labels : IsBytes f) (bytes : IsBytes w) where
     one-more : registersBefore (netlistOf f) (i + 1) ≡ registersBefore (netlistOf f) i + 1
-    one-more = before-step (netlistOf f) i inside ∙ ap (λ (b : Bool). registersBefore (netlistOf f) i + cond b 1 0) (registers i inside known)
+    one-more = count-next isRegister constant (netlistOf f) i inside ∙ ap (λ (b : Bool). registersBefore (netlistOf f) i + cond b 1 0) (registers i inside known)
 
     some-more : EntryPart (netlistOf f) w put (i + 1) (e + 1)
     some-more =
         let vs = entryBytes (labelOf (rowAt (netlistOf f) i)) (byteAt w (knownPlace i)) (byteAt w (knownPlace i + 1)) in
         let h = E .few in
         let s = one-more in
-        let b = before-le (netlistOf f) (i + 1) inside-next in
+        let b = count-some-le isRegister constant (netlistOf f) (i + 1) .1 in
         let most = R .registers in
         let k = E .kept .long in
         let K : KeptOutside (entryPlace e) (entryPlace e + 8) w′ put = kept-sets (entryPlace e) (entryPlace e + 8) vs w′ (entryPlace e) (omega arith) (omega arith) in
@@ -196,7 +196,7 @@ module _ {f : List ℕ} {n : ℕ} {w : List ℕ} {i e : ℕ} (R : EntryReady f n
     put-asks =
         let h = R .few in
         let l = row-within entry-row in
-        (omega (arith, R .ready .registers, before-lt (netlistOf f) i l (R .registers i l known)), R .room)
+        (omega (arith, R .ready .registers, count-place isRegister constant (netlistOf f) i l (R .registers i l known)), R .room)
 
     -- A register's label is field b.
     pub entry-some : (r : Fields) → fieldsIn r ≡ readFields f i → (w′ : List ℕ) → w′ ≡ sets w (entryPlace e) (entryBytes (r .b) (byteAt w (knownPlace i)) (byteAt w (knownPlace i + 1)))

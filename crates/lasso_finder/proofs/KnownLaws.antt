@@ -22,17 +22,17 @@ use Rattle.memory.proofs.FrameLaws.{kept-sets, sets-at}
 use Rattle.ternary.specs.Ternary.{Ternary, lo, hi, X, codeOf, valueOf, isKnown}
 use Rattle.ternary.proofs.RuleLaws.{value-of-code}
 use Rattle.netlist.specs.Limits.{mostPhases, mostOriginalRows, mostOriginalRegisters}
-use Rattle.netlist.specs.Rows.{Row, rowAt, isRegister}
+use Rattle.netlist.specs.Rows.{Row, rowAt, isRegister, constant}
 use Rattle.netlist.specs.FileFormat.{netlistOf}
 use Rattle.lasso.specs.Generators.{stateValue, isGenerator, periodOf, periodsOf, isUsed, clockValue}
 use Rattle.lasso.specs.ClockEntries.{bitOf, clockWord}
 use Rattle.lasso.proofs.GeneratorLaws.{period-other, period-is, generator-le}
 use Rattle.lasso.proofs.ClockLaws.{word-lt, word-bit}
+use Rattle.blockfile.proofs.CountLaws.{count-place}
 use Rattle.lasso_finder.specs.WorkMap.{knownPlace, knownIn}
 use Rattle.lasso_finder.specs.StateMap.{statePlace, valuePlace, codeAt, registersBefore, stateCodes, AtRow}
 use Rattle.lasso_finder.specs.Stages.{lassoIn, smallPeriod, PeriodPart, phaseValue, WordReady, periodAt, knownBytes, KnownPart}
 use Rattle.lasso_finder.proofs.CodeLaws.{packed-kept}
-use Rattle.lasso_finder.proofs.RegisterLaws.{before-lt}
 use Rattle.lasso_finder.proofs.StepLaws.{place-early, place-within, row-small}
 use Rattle.lasso_finder.proofs.PeriodLaws.{is-lasso, lasso-short, lasso-code}
 use Rattle.lasso_finder.proofs.CountLaws.{used-above, used-small}
@@ -150,7 +150,7 @@ module _ {rows : List Row} {w : List ℕ} (P : PeriodPart rows w (length rows)) 
             subst (λ (x : ℕ). WordReady w j x n) q
             (record {
               room = P .lassoed .room;
-              register = omega (arith, few, number, before-lt rows i within is-register);
+              register = omega (arith, few, number, count-place isRegister constant rows i within is-register);
               period = (positive, small);
               phases = to;
               known = λ k h. rw (phase-code k) (ltb-true (codeOf (stateValue rows i (k % periodAt rows i))) 2 (phase-known k));

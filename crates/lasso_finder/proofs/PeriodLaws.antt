@@ -19,17 +19,18 @@ use Rattle.memory.proofs.ListLaws.{first-none, first-found}
 use Rattle.memory.proofs.FrameLaws.{kept-set}
 use Rattle.ternary.specs.Ternary.{codeOf, equal3, isKnown}
 use Rattle.netlist.specs.Limits.{mostPhases, mostOriginalRows, mostOriginalRegisters, foldWorkBytes, lastState}
-use Rattle.netlist.specs.Rows.{Row, rowAt, decodeRow, isRegister}
+use Rattle.netlist.specs.Rows.{Row, rowAt, decodeRow, isRegister, constant}
 use Rattle.netlist.specs.FileFormat.{readFields, netlistOf}
 use Rattle.lasso.specs.Generators.{stateValue, isGenerator, periodOf}
 use Rattle.lasso.proofs.LassoLaws.{IsLasso, lasso-is}
 use Rattle.lasso.proofs.GeneratorLaws.{period-other, period-is, period-none}
 use Rattle.blockfile.specs.RowCode.{fieldsIn}
 use Rattle.blockfile.specs.declared.Fields.{Fields}
+use Rattle.blockfile.proofs.CountLaws.{count-place}
 use Rattle.lasso_finder.specs.StateMap.{statePlace, valuePlace, codeAt, registersBefore, stateCodes, AtRow}
 use Rattle.lasso_finder.specs.Stages.{lassoIn, Lassoed, holdsAs, generatorIn, smallPeriod, periodIn, PeriodPart}
 use Rattle.lasso_finder.proofs.CodeLaws.{packed-at}
-use Rattle.lasso_finder.proofs.RegisterLaws.{before-lt, codes-at}
+use Rattle.lasso_finder.proofs.RegisterLaws.{codes-at}
 use Rattle.lasso_finder.proofs.StepLaws.{ValuesKept, packed-values, row-within, row-small, register-is, register-small}
 
 -- ---- one state after another
@@ -100,7 +101,7 @@ module _ {rows : List Row} {w : List ℕ} (L : Lassoed rows w) where
     pub lasso-code : (t : ℕ) → t < lassoIn rows .stem + lassoIn rows .cycle → codeAt w (statePlace t) j ≡ codeOf (stateValue rows i t)
     lasso-code t h =
         ap (codeAt w (statePlace t)) number
-        ∙ packed-at w (statePlace t) (stateCodes rows t (length rows)) (L .states t h) (registersBefore rows i) (omega (arith, few, before-lt rows i within register))
+        ∙ packed-at w (statePlace t) (stateCodes rows t (length rows)) (L .states t h) (registersBefore rows i) (omega (arith, few, count-place isRegister constant rows i within register))
         ∙ codes-at rows t (length rows) i (omega arith) within register
 
     generator-is : (p : ℕ) → generatorIn w (lassoIn rows .stem + lassoIn rows .cycle) (lassoIn rows .cycle) j p ≡ isGenerator rows (lassoIn rows) i p

@@ -7,32 +7,20 @@ use mathlib.Core.List.{List, [], _∷_, _++_, append-nil}
 use native.Mathlib.Omega.{arith}
 use native.Mathlib.Numerals.{add-one}
 use native.Mathlib.Nat.{le-refl}
-use borrow.Author.Tests.{ne-eqb}
-use lib.Dec.{eqb}
-use lib.ListN.{length, getD, take, length-append, List·getD-append, length-map}
-use lib.Seq.{take-suc, take-length, getD-at}
+use lib.ListN.{length, getD, length-append, List·getD-append, length-map}
+use lib.Seq.{take-length, getD-at}
 use Rattle.memory.specs.Lists.{countIf}
 use Rattle.memory.proofs.TestLaws.{last-or}
-use Rattle.memory.proofs.ListLaws.{count-last}
 use Rattle.ternary.specs.Ternary.{Ternary, lo, X, not3, codeOf}
 use Rattle.netlist.specs.Rows.{Row, constant, input, register, andGate, xorGate, muxGate, output, rowFromFields, rowAt, onRegister, isRegister}
 use Rattle.netlist.specs.Simulation.{Logic, ternaryLogic, rowValue, startBy, runState, ternaryState}
 use Rattle.netlist.proofs.WellFormed.{Ordered}
 use Rattle.netlist.proofs.SimulationLaws.{held, state-at, value-at}
 use Rattle.lasso.specs.Generators.{stateValue}
+use Rattle.blockfile.proofs.CountLaws.{count-next}
 use Rattle.lasso_finder.specs.StateMap.{registersBefore, nextOf, stateCodes, stepValue}
 
 -- ---- rows by kind
-
-pub kind-register : (k r a b c : ℕ) → eqb k 2 ≡ isRegister (rowFromFields k r a b c)
-kind-register zero r a b c = refl
-kind-register (suc zero) r a b c = refl
-kind-register (suc (suc zero)) r a b c = refl
-kind-register (suc (suc (suc zero))) r a b c = refl
-kind-register (suc (suc (suc (suc zero)))) r a b c = refl
-kind-register (suc (suc (suc (suc (suc zero))))) r a b c = refl
-kind-register (suc (suc (suc (suc (suc (suc zero)))))) r a b c = refl
-kind-register (suc (suc (suc (suc (suc (suc (suc k))))))) r a b c = ne-eqb (suc (suc (suc (suc (suc (suc (suc k))))))) 2 (λ (e : suc (suc (suc (suc (suc (suc (suc k)))))) ≡ 2). omega arith)
 
 -- The fields of a register.
 pub register-row : (k r a b c : ℕ) → isRegister (rowFromFields k r a b c) ≡ true → rowFromFields k r a b c ≡ register r a b
@@ -85,9 +73,6 @@ reset-code (suc (suc (suc r))) h = absurd (omega arith)
 module _ (rows : List Row) where
   -- ---- registers before a row
 
-  pub before-step : (i : ℕ) → i < length rows → registersBefore rows (i + 1) ≡ registersBefore rows i + cond (isRegister (rowAt rows i)) 1 0
-  before-step i h = rw (add-one i) (ap (countIf isRegister) (take-suc rows i constant h) ∙ count-last isRegister (take i rows) (rowAt rows i))
-
   pub before-all : registersBefore rows (length rows) ≡ countIf isRegister rows
   before-all = ap (countIf isRegister) (take-length rows)
 
@@ -95,27 +80,21 @@ module _ (rows : List Row) where
   before-mono zero i h l = let e : i ≡ 0 = omega arith in rw e (le-refl _)
   before-mono (suc n) i h l =
       last-or i (suc n) (omega arith)
-      (λ k. omega (arith, before-mono n i (omega arith) (omega arith), before-step n h, add-one n, ap (registersBefore rows) (add-one n)))
+      (λ k. omega (arith, before-mono n i (omega arith) (omega arith), count-next isRegister constant rows n h, add-one n, ap (registersBefore rows) (add-one n)))
       (λ e. rw e (le-refl _))
 
-  pub before-le : (i : ℕ) → i ≤ length rows → registersBefore rows i ≤ countIf isRegister rows
-  before-le i h = omega (arith, before-mono (length rows) i (omega arith) h, before-all)
-
   before-one : (i : ℕ) → i < length rows → isRegister (rowAt rows i) ≡ true → registersBefore rows (i + 1) ≡ registersBefore rows i + 1
-  before-one i h r = before-step i h ∙ ap (λ (t : Bool). registersBefore rows i + cond t 1 0) r
+  before-one i h r = count-next isRegister constant rows i h ∙ ap (λ (t : Bool). registersBefore rows i + cond t 1 0) r
 
   -- The count after a register, and after another row.
   pub before-yes : (i : ℕ) → i < length rows → isRegister (rowAt rows i) ≡ true → registersBefore rows (suc i) ≡ suc (registersBefore rows i)
   before-yes i h r = sym (ap (registersBefore rows) (add-one i)) ∙ before-one i h r ∙ add-one (registersBefore rows i)
 
   pub before-no : (i : ℕ) → i < length rows → isRegister (rowAt rows i) ≡ false → registersBefore rows (suc i) ≡ registersBefore rows i
-  before-no i h r = sym (ap (registersBefore rows) (add-one i)) ∙ before-step i h ∙ ap (λ (t : Bool). registersBefore rows i + cond t 1 0) r ∙ omega arith
+  before-no i h r = sym (ap (registersBefore rows) (add-one i)) ∙ count-next isRegister constant rows i h ∙ ap (λ (t : Bool). registersBefore rows i + cond t 1 0) r ∙ omega arith
 
   pub before-less : (n i : ℕ) → n ≤ length rows → i < n → isRegister (rowAt rows i) ≡ true → registersBefore rows i < registersBefore rows n
   before-less n i h l r = omega (arith, before-one i (omega arith) r, before-mono n (i + 1) h (omega arith))
-
-  pub before-lt : (i : ℕ) → i < length rows → isRegister (rowAt rows i) ≡ true → registersBefore rows i < countIf isRegister rows
-  before-lt i h r = omega (arith, before-less (length rows) i (omega arith) h r, before-all)
 
   -- ---- the codes of a state
 
@@ -134,7 +113,7 @@ module _ (rows : List Row) where
     codes-length (suc i) h =
         length-append (stateCodes rows t i) _
         ∙ ap₂ _+_ (codes-length i (omega arith)) (one (isRegister (rowAt rows i)))
-        ∙ sym (before-step i h) ∙ ap (registersBefore rows) (add-one i)
+        ∙ sym (count-next isRegister constant rows i h) ∙ ap (registersBefore rows) (add-one i)
       where
         one : (b : Bool) → length (cond b (codeOf (stateValue rows i t) ∷ []) []) ≡ cond b 1 0
         one true = refl

@@ -19,7 +19,7 @@ use Rattle.memory.proofs.FrameLaws.{kept-set, kept-at, kept-join, kept-sets, u1
 use Rattle.ternary.specs.Ternary.{Ternary, X, codeOf, valueOf}
 use Rattle.ternary.proofs.RuleLaws.{value-of-code, code-below}
 use Rattle.netlist.specs.Limits.{mostRows, mostOriginalRows, mostOriginalRegisters, foldWorkBytes, lastState}
-use Rattle.netlist.specs.Rows.{Row, register, decodeRow, rowAt, onRegister, isRegister}
+use Rattle.netlist.specs.Rows.{Row, register, decodeRow, rowAt, onRegister, isRegister, constant}
 use Rattle.netlist.specs.FileFormat.{rowOffset, readFields, netlistOf}
 use Rattle.netlist.specs.Simulation.{ternaryLogic, rowValue}
 use Rattle.netlist.proofs.WellFormed.{OperandsBelow}
@@ -27,10 +27,11 @@ use Rattle.netlist.proofs.SimulationLaws.{row-cong}
 use Rattle.lasso.specs.Generators.{stateValue}
 use Rattle.blockfile.specs.RowCode.{fieldsIn}
 use Rattle.blockfile.specs.declared.Fields.{Fields}
+use Rattle.blockfile.proofs.CountLaws.{count-next, count-place, sorts-by, count-some-le}
 use Rattle.lasso_finder.specs.StateMap.{statePlace, valuePlace, nextPlace, codeAt, stateBytes, Packed, registersBefore, stateCodes, valueIn, stepValue, Coded, RowReady, rowIn, AtRow, Evaluated, NextsListed, Started}
 use Rattle.lasso_finder.specs.WorkMap.{knownPlace}
 use Rattle.lasso_finder.proofs.CodeLaws.{packed-at, packed-small, packed-more, packed-kept}
-use Rattle.lasso_finder.proofs.RegisterLaws.{kind-register, register-row, reset-code, row-held, before-step, before-le, before-less, before-lt, codes-register, codes-other, codes-length, codes-at, state-held, step-value}
+use Rattle.lasso_finder.proofs.RegisterLaws.{register-row, reset-code, row-held, before-less, codes-register, codes-other, codes-length, codes-at, state-held, step-value}
 
 -- ---- the parts of the memory
 
@@ -117,7 +118,7 @@ module _ {f : List ℕ} {n i j : ℕ} (A : AtRow f n i j) where
   read-asks = let s = row-small in (omega arith, A .ready .inside i (A .within))
 
   pub number-small : j ≤ mostOriginalRegisters
-  number-small = let h = row-within in omega (arith, A .number, A .ready .registers, before-le (netlistOf f) i (omega arith))
+  number-small = let h = row-within in omega (arith, A .number, A .ready .registers, count-some-le isRegister constant (netlistOf f) i .1)
 
   module _ (r : Fields) (read : fieldsIn r ≡ readFields f i) where
     row-is : rowAt (netlistOf f) i ≡ decodeRow (fieldsIn r)
@@ -127,20 +128,20 @@ module _ {f : List ℕ} {n i j : ℕ} (A : AtRow f n i j) where
     register-is = ap isRegister row-is
 
     pub register-small : isRegister (decodeRow (fieldsIn r)) ≡ true → j < mostOriginalRegisters
-    register-small e = omega (arith, A .number, A .ready .registers, before-lt (netlistOf f) i row-within (register-is ∙ e))
+    register-small e = omega (arith, A .number, A .ready .registers, count-place isRegister constant (netlistOf f) i row-within (register-is ∙ e))
 
     -- The number of registers after row i.
     pub number-next : (k : ℕ) → k ≡ j + cond (eqb (r .kind) 2) 1 0 → k ≡ registersBefore (netlistOf f) (i + 1)
     number-next k e =
-        e ∙ ap (λ (b : Bool). j + cond b 1 0) (kind-register (r .kind) (r .reset) (r .a) (r .b) (r .c) ∙ sym register-is)
-        ∙ ap (λ (m : ℕ). m + cond (isRegister (rowAt (netlistOf f) i)) 1 0) (A .number) ∙ sym (before-step (netlistOf f) i row-within)
+        e ∙ ap (λ (b : Bool). j + cond b 1 0) (sym (sorts-by (r .kind) (r .reset) (r .a) (r .b) (r .c) .register-if) ∙ sym register-is)
+        ∙ ap (λ (m : ℕ). m + cond (isRegister (rowAt (netlistOf f) i)) 1 0) (A .number) ∙ sym (count-next isRegister constant (netlistOf f) i row-within)
 
     -- By its kind.
     pub register-yes : r .kind ≡ 2 → isRegister (decodeRow (fieldsIn r)) ≡ true
-    register-yes e = sym (kind-register (r .kind) (r .reset) (r .a) (r .b) (r .c)) ∙ eq-eqb (r .kind) 2 e
+    register-yes e = sorts-by (r .kind) (r .reset) (r .a) (r .b) (r .c) .register-if ∙ eq-eqb (r .kind) 2 e
 
     pub register-no : (r .kind ≡ 2 → ⊥) → isRegister (decodeRow (fieldsIn r)) ≡ false
-    register-no e = sym (kind-register (r .kind) (r .reset) (r .a) (r .b) (r .c)) ∙ ne-eqb (r .kind) 2 e
+    register-no e = sorts-by (r .kind) (r .reset) (r .a) (r .b) (r .c) .register-if ∙ ne-eqb (r .kind) 2 e
 
     pub number-yes : r .kind ≡ 2 → j + 1 ≡ registersBefore (netlistOf f) (i + 1)
     number-yes e = number-next (j + 1) (rw (eq-eqb (r .kind) 2 e) refl)
@@ -156,7 +157,7 @@ module _ {f : List ℕ} {n i j : ℕ} (A : AtRow f n i j) where
       held-code e =
           let s = number-small in
           rw (place, A .number)
-          (packed-at w (statePlace t) (stateCodes (netlistOf f) t (length (netlistOf f))) (E .state) (registersBefore (netlistOf f) i) (omega (arith, A .ready .registers, before-lt (netlistOf f) i row-within e))
+          (packed-at w (statePlace t) (stateCodes (netlistOf f) t (length (netlistOf f))) (E .state) (registersBefore (netlistOf f) i) (omega (arith, A .ready .registers, count-place isRegister constant (netlistOf f) i row-within e))
           ∙ codes-at (netlistOf f) t (length (netlistOf f)) i (omega arith) row-within e)
 
       pub row-asks : t < lastState → RowReady w r base j

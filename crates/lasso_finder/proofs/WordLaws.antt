@@ -18,15 +18,16 @@ use Rattle.memory.proofs.FieldLaws.{u32-small, u32-read, u32-write}
 use Rattle.ternary.specs.Ternary.{Ternary, lo, codeOf, valueOf}
 use Rattle.ternary.proofs.RuleLaws.{value-of-code}
 use Rattle.netlist.specs.Limits.{mostOriginalRegisters}
-use Rattle.netlist.specs.Rows.{Row, rowAt, isRegister}
+use Rattle.netlist.specs.Rows.{Row, rowAt, isRegister, constant}
 use Rattle.netlist.specs.Simulation.{ternaryState}
 use Rattle.lasso.specs.LassoSearch.{equalStates}
 use Rattle.lasso.specs.Generators.{stateValue}
 use Rattle.lasso.proofs.LassoLaws.{states-equal, states-same}
+use Rattle.blockfile.proofs.CountLaws.{count-place}
 use Rattle.lasso_finder.specs.StateMap.{statePlace, pairOf, codeAt, Packed, registersBefore, stateCodes, Stored}
 use Rattle.lasso_finder.specs.Stages.{wordAt, sameWord}
 use Rattle.lasso_finder.proofs.CodeLaws.{packed-at, packed-bytes}
-use Rattle.lasso_finder.proofs.RegisterLaws.{before-lt, codes-at, state-other, state-length}
+use Rattle.lasso_finder.proofs.RegisterLaws.{codes-at, state-other, state-length}
 
 -- ---- tests of a run of numbers
 
@@ -92,7 +93,7 @@ module _ (rows : List Row) (w : List ℕ) (bytes : IsBytes w) (few : countIf isR
   value-same : allBelow words (sameWord w (statePlace a) (statePlace b)) ≡ true → (i : ℕ) → i < length rows → (t : Bool) → isRegister (rowAt rows i) ≡ t → stateValue rows i a ≡ stateValue rows i b
   value-same h i l true e =
       let j = registersBefore rows i in
-      let s = before-lt rows i l e in
+      let s = count-place isRegister constant rows i l e in
       let at : (t : ℕ) → Stored rows w t → codeAt w (statePlace t) j ≡ codeOf (stateValue rows i t) =
       λ t S. packed-at w (statePlace t) (stateCodes rows t (length rows)) S j (omega arith) ∙ codes-at rows t (length rows) i (omega arith) l e in
       let c : codeOf (stateValue rows i a) ≡ codeOf (stateValue rows i b) = sym (at a A) ∙ ap (λ (n : ℕ). pairOf n (j % 4)) (byte-same h (j / 4) (omega arith)) ∙ at b B in

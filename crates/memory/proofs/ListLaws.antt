@@ -11,7 +11,7 @@ use native.Mathlib.Nat.{mul-suc, mul-le-mul-left}
 use lib.ListN.{length, getD, length-append, List·getD-append}
 use lib.Seq.{getD-at, getD-append-add}
 use Rattle.memory.specs.Lists.{allBelow, joinBelow, tabulate, firstFrom, countIf}
-use Rattle.memory.proofs.TestLaws.{and-true, last-or}
+use Rattle.memory.proofs.TestLaws.{and-true, last-or, cond-case}
 
 -- ---- allBelow
 
@@ -118,6 +118,10 @@ first-none i n f h = elim (decLt (firstFrom i n f) (i + n)) [
 ]
 
 -- ---- countIf
+
+pub count-le {ℓ} : {A : Type ℓ} (f : A → Bool) (xs : List A) → countIf f xs ≤ length xs
+count-le f [] = omega arith
+count-le f (x ∷ xs) = cond-case (λ k. k + countIf f xs ≤ suc (length xs)) (f x) 1 0 (λ _. omega (arith, count-le f xs)) (λ _. omega (arith, count-le f xs))
 
 pub count-last {ℓ} : {A : Type ℓ} (f : A → Bool) (xs : List A) (x : A) → countIf f (xs ++ (x ∷ [])) ≡ countIf f xs + cond (f x) 1 0
 count-last f [] x = omega arith

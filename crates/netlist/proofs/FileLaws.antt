@@ -14,10 +14,11 @@ use Rattle.memory.specs.Fields.{IsBytes, byteAt, u32At, u16Bytes, u32Bytes}
 use Rattle.memory.proofs.TestLaws.{cond-case}
 use Rattle.memory.proofs.ListLaws.{join-length, join-at, tabulate-length, tabulate-at}
 use Rattle.memory.proofs.FieldLaws.{u16-small, u16-read, u16-write, u32-read, bytes-cons, bytes-append, bytes-join, bytes-zeros, u16-is-bytes, u32-is-bytes}
-use Rattle.netlist.specs.Limits.{mostRows}
-use Rattle.netlist.specs.Rows.{Row, RowFields, encodeRow, decodeRow, rowFromFields, constant, rowAt, labelOf}
+use Rattle.netlist.specs.Limits.{mostRows, mostPhases}
+use Rattle.netlist.specs.Rows.{Row, RowFields, encodeRow, decodeRow, rowFromFields, constant, rowAt, labelOf, input, register, andGate, xorGate, muxGate, output, phaseOf}
 use Rattle.netlist.specs.FileFormat.{lastMark, wordSum, blockCount, blockAt, rowOffset, readFields, rowCount, fieldsOf, fieldsAt, netlistOf, fieldBytes, rowBytes, blockBody, checkWord, blockBytes, blockRows, blocksFor, fileOf}
 use Rattle.netlist.proofs.RowLaws.{decode-rows, kind-le, EachRow}
+use Rattle.netlist.proofs.WellFormed.{OperandsBelow, NextBelow}
 
 -- ---- byte 0
 
@@ -62,6 +63,16 @@ pub record FieldsFit (w : RowFields) : Type 0 where
   pub a-fits : w .a < 2 ^ 16
   pub b-fits : w .b < 2 ^ 16
   pub c-fits : w .c < 2 ^ 16
+
+-- A row whose operands name rows below j, its next value a row below n, and whose label and phase are in range.
+pub row-fits : (j n : ℕ) → j ≤ mostRows → n ≤ mostRows → (r : Row) → OperandsBelow j r → NextBelow n r → labelOf r < 2 ^ 16 → phaseOf r < mostPhases → FieldsFit (encodeRow r)
+row-fits j n h k constant b c l p = record { a-fits = omega arith; b-fits = omega arith; c-fits = omega arith }
+row-fits j n h k (input _ _) b c l p = record { a-fits = l; b-fits = omega (arith, p); c-fits = omega arith }
+row-fits j n h k (register _ _ _) b c l p = record { a-fits = omega (arith, c); b-fits = l; c-fits = omega arith }
+row-fits j n h k (andGate _ _) b c l p = record { a-fits = omega (arith, b .0); b-fits = omega (arith, b .1); c-fits = omega arith }
+row-fits j n h k (xorGate _ _) b c l p = record { a-fits = omega (arith, b .0); b-fits = omega (arith, b .1); c-fits = omega arith }
+row-fits j n h k (muxGate _ _ _) b c l p = record { a-fits = omega (arith, b .0); b-fits = omega (arith, b .1); c-fits = omega (arith, b .2) }
+row-fits j n h k (output _ _ _) b c l p = record { a-fits = omega (arith, b); b-fits = l; c-fits = omega (arith, p) }
 
 -- What is written as row i is read again, if it fits.
 pub fields-read : (f : List ℕ) (i : ℕ) (w : RowFields) → FieldsFit w → ((d : ℕ) → d < 8 → byteAt f (rowOffset i + d) ≡ byteAt (fieldBytes w) d) → readFields f i ≡ w
@@ -111,7 +122,7 @@ module _ (k B : ℕ) (rs : List Row) (small : length rs ≤ 63) where
   written-length : length written ≡ 8 * length rs
   written-length = join-length 8 (λ i. rowBytes (rowAt rs i)) (length rs) (λ j l. refl)
 
-  body-length : length (blockBody k B rs) ≡ 508
+  pub body-length : length (blockBody k B rs) ≡ 508
   unfolding blockBody
   body-length = simp (length-append, length-replicate) (omega (arith, written-length))
 
@@ -298,10 +309,13 @@ module _ (f : List ℕ) where
   unfolding fieldsOf
   read-at i h = tabulate-at (rowCount f) (readFields f) i (encodeRow constant) h
 
+  pub row-at : (i : ℕ) → i < rowCount f → rowAt (netlistOf f) i ≡ decodeRow (readFields f i)
+  unfolding netlistOf
+  row-at i h = List·getD-map decodeRow (fieldsOf f) i (encodeRow constant) ∙ ap decodeRow (read-at i h)
+
   -- The labels of a file of bytes have 16 bits.
   pub file-labels : IsBytes f → EachRow (λ r. labelOf r < 2 ^ 16) (netlistOf f)
-  unfolding netlistOf
   file-labels b i h =
       let w = readFields f i in
-      rw (List·getD-map decodeRow (fieldsOf f) i (encodeRow constant), read-at i (omega (arith, read-length)))
+      rw (row-at i (omega (arith, read-length)))
       (label-small (w .kind) (w .reset) (w .a) (w .b) (w .c) (u16-small f (rowOffset i + 2) b) (u16-small f (rowOffset i + 4) b))

@@ -13,7 +13,7 @@ use lib.Seq.{getD-append-add}
 use Rattle.memory.proofs.TestLaws.{and-true, last-or}
 use Rattle.memory.specs.Lists.{joinBelow}
 use Rattle.memory.proofs.ListLaws.{first-is, first-least}
-use Rattle.netlist.specs.Rows.{Row, constant, input, register, andGate, xorGate, muxGate, output, encodeRow, decodeRow, rowAt, kindOf, nameOf, labelOf, phaseOf, hasName, isNamed, isOutput, isUnknown, firstRow, HasRow}
+use Rattle.netlist.specs.Rows.{Row, constant, input, register, andGate, xorGate, muxGate, output, encodeRow, decodeRow, rowAt, kindOf, nameOf, labelOf, phaseOf, hasName, isNamed, isOutput, isUnknown, firstRow, HasRow, rowFromFields}
 
 -- ---- fields
 
@@ -38,6 +38,17 @@ kind-le (andGate _ _) = omega arith
 kind-le (xorGate _ _) = omega arith
 kind-le (muxGate _ _ _) = omega arith
 kind-le (output _ _ _) = omega arith
+
+-- Fields of a kind above 6 are read as a constant.
+pub other-kind : (d s a b c : ℕ) → (d ≡ 0 → ⊥) → (d ≡ 1 → ⊥) → (d ≡ 2 → ⊥) → (d ≡ 3 → ⊥) → (d ≡ 4 → ⊥) → (d ≡ 5 → ⊥) → (d ≡ 6 → ⊥) → rowFromFields d s a b c ≡ constant
+other-kind zero s a b c n0 n1 n2 n3 n4 n5 n6 = refl
+other-kind (suc zero) s a b c n0 n1 n2 n3 n4 n5 n6 = absurd (n1 refl)
+other-kind (suc (suc zero)) s a b c n0 n1 n2 n3 n4 n5 n6 = absurd (n2 refl)
+other-kind (suc (suc (suc zero))) s a b c n0 n1 n2 n3 n4 n5 n6 = absurd (n3 refl)
+other-kind (suc (suc (suc (suc zero)))) s a b c n0 n1 n2 n3 n4 n5 n6 = absurd (n4 refl)
+other-kind (suc (suc (suc (suc (suc zero))))) s a b c n0 n1 n2 n3 n4 n5 n6 = absurd (n5 refl)
+other-kind (suc (suc (suc (suc (suc (suc zero)))))) s a b c n0 n1 n2 n3 n4 n5 n6 = absurd (n6 refl)
+other-kind (suc (suc (suc (suc (suc (suc (suc d))))))) s a b c n0 n1 n2 n3 n4 n5 n6 = refl
 
 pub output-is : (r : Row) → isOutput r ≡ true → (a l p : ℕ) × (r ≡ output a l p)
 output-is constant h = absurd (false≢true h)

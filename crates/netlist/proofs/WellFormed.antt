@@ -4,6 +4,7 @@ use Prim.Native.Nat.{ℕ, _<_, _≤_, _/_}
 use mathlib.Core.Path.{_≡_}
 use mathlib.Core.Bool.{true, false}
 use mathlib.Core.List.{List}
+use native.Mathlib.Omega.{arith}
 use lib.ListN.{length}
 use Rattle.netlist.specs.Limits.{mostOriginalRows}
 use Rattle.netlist.specs.Rows.{Row, constant, input, register, andGate, xorGate, muxGate, output, rowAt, onRegister, phaseOf, hasName, isOutput}
@@ -22,10 +23,20 @@ OperandsBelow j (output a l p) = a / 2 < j
 abbrev pub Ordered : List Row → Type 0
 Ordered rows = (j : ℕ) → j < length rows → OperandsBelow j (rowAt rows j)
 
--- A register's next value names a row below m, and its reset is 0, 1 or X.
+-- A register's next value names a row below m.
 abbrev pub NextBelow : ℕ → Row → Type 0
 NextBelow m = onRegister (Unit {0}) (λ r n l. n / 2 < m)
 
+pub next-wider : (m n : ℕ) → m ≤ n → (r : Row) → NextBelow m r → NextBelow n r
+next-wider m n h constant b = tt
+next-wider m n h (input _ _) b = tt
+next-wider m n h (register _ _ _) b = omega (arith, b)
+next-wider m n h (andGate _ _) b = tt
+next-wider m n h (xorGate _ _) b = tt
+next-wider m n h (muxGate _ _ _) b = tt
+next-wider m n h (output _ _ _) b = tt
+
+-- A register's reset is 0, 1 or X.
 abbrev pub ResetIn : Row → Type 0
 ResetIn = onRegister (Unit {0}) (λ r n l. r ≤ 2)
 
