@@ -66,7 +66,7 @@ module _ (w : List ℕ) (i k s a b : ℕ) where
 -- The fields of row i of the file.
 module _ (f : List ℕ) (i : ℕ) (O : Original f) (h : i < length (netlistOf f)) (d s a b c : ℕ) (e : _≡_ {A = RowFields} (record { kind = d; reset = s; a = a; b = b; c = c }) (readFields f i)) where
   row-is : rowAt (netlistOf f) i ≡ rowFromFields d s a b c
-  row-is = O .read i h ∙ ap decodeRow (sym e)
+  row-is = O .file .row-is i h ∙ ap decodeRow (sym e)
 
   -- What its literals may name, by its kind.
   next : NextBelow (length (netlistOf f)) (rowFromFields d s a b c)

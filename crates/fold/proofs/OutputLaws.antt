@@ -58,7 +58,7 @@ module _ (f w : List ℕ) (k i place : ℕ) (O : Original f) (h : i < length (ne
   o = rowOffset i
 
   by-fields : outputAt (netlistOf f) w k i ≡ phaseOutput k image (decodeRow (readFields f i))
-  by-fields = ap (phaseOutput k image) (O .read i h)
+  by-fields = ap (phaseOutput k image) (O .file .row-is i h)
 
   kind-at : byteAt f o ≡ byteAt f place
   kind-at = ap (byteAt f) (sym e)

@@ -11,20 +11,20 @@ use Rattle.memory.specs.Fields.{byteAt, u16At, u16Bytes}
 use Rattle.memory.specs.Frames.{KeptOutside}
 use Rattle.ternary.specs.Ternary.{Ternary}
 use Rattle.netlist.specs.Limits.{mostPhases, mostOriginalRows, foldResultBytes, foldWorkBytes}
-use Rattle.netlist.specs.Rows.{Row, RowFields, decodeRow, rowAt}
-use Rattle.netlist.specs.FileFormat.{rowOffset, readFields, netlistOf, fieldBytes, rowBytes}
+use Rattle.netlist.specs.Rows.{Row, RowFields, rowAt}
+use Rattle.netlist.specs.FileFormat.{rowOffset, netlistOf, fieldBytes, rowBytes}
 use Rattle.netlist.proofs.WellFormed.{NextBelow, AcceptedRows}
 use Rattle.abstraction.specs.GateMaking.{Unrolling}
 use Rattle.abstraction.specs.Unrolling.{patchNext, phaseOutput, unrollPhase, unrollPhases}
 use Rattle.blockfile.specs.RowsStand.{RowsStand}
+use Rattle.blockfile.specs.Ready.{Ready}
 use Rattle.gates.specs.declared.MadeRow.{MadeRow}
 use Rattle.gates.specs.declared.MadeImage.{MadeImage}
 use Rattle.gates.specs.declared.MadeImage.the-variants.{Kept, Fresh}
 
 -- A file whose rows questions 6 to 13 accept; each row is read at its place.
 pub record Original (f : List ℕ) : Type 0 where
-  pub within : (i : ℕ) → i < length (netlistOf f) → rowOffset i + 8 ≤ length f
-  pub read : (i : ℕ) → i < length (netlistOf f) → rowAt (netlistOf f) i ≡ decodeRow (readFields f i)
+  pub file : Ready f (length (netlistOf f))
   pub accepted : AcceptedRows (netlistOf f)
 
 -- The lent memory is large enough.

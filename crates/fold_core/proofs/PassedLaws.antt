@@ -22,13 +22,14 @@ use Rattle.questions.specs.Questions.{Refusal, noRefusal, namesEarlier, fileRef
 use Rattle.questions.proofs.QuestionLaws.{NoneRefuses, all-none, number-none, question-none}
 use Rattle.questions.proofs.PlainWords.{MemoryRight, foldMemoryRight-iff}
 use Rattle.questions.proofs.AcceptedFiles.{FileRight, OriginalRight, file-right, original-right}
-use Rattle.lasso_finder.specs.StateMap.{Ready}
+use Rattle.blockfile.specs.Ready.{Ready}
+use Rattle.lasso_finder.specs.StateMap.{AnalysisReady}
 use Rattle.lasso_finder.specs.WorkMap.{entryIn, entriesIn}
 use Rattle.lasso_finder.specs.Outcome.{phasesOf, clocksOf, analysisOf, Analysed}
 use Rattle.lasso_finder.specs.declared.Analysis.{Analysis}
 use Rattle.lasso_finder.specs.declared.Analysis.the-variants as analysis
 use Rattle.lasso_finder.specs.declared.Clocks.{Clocks}
-use Rattle.lasso_finder.proofs.ReadyLaws.{ready-of}
+use Rattle.lasso_finder.proofs.ReadyLaws.{analysis-ready}
 use Rattle.lasso_finder.proofs.EntryLaws.{entry-kept}
 use Rattle.fold.specs.UnrollMap.{Original, Room}
 use Rattle.fold_core.specs.FoldAnswers.{numbersOf, entriesOf, resultOf}
@@ -85,8 +86,8 @@ module _ {file : List ℕ} {n wish : ℕ} {result work : List ℕ} (R : FoldRead
   original : OriginalRight rows
   original = early-original file wish (length result) (length work) (R .clocks) (R .passed)
 
-  pub file-ready : Ready file n
-  file-ready = ready-of file (early-file file wish (length result) (length work) (R .clocks) (R .passed)) n (R .rows) original
+  pub file-ready : AnalysisReady file n
+  file-ready = analysis-ready file (early-file file wish (length result) (length work) (R .clocks) (R .passed)) n (R .rows) original
 
   pub wish-small : wish ≤ mostPhases
   wish-small = early-wish file wish (length result) (length work) (R .clocks) (R .passed)
@@ -125,7 +126,7 @@ module _ {file : List ℕ} {n wish : ℕ} {result work : List ℕ} (R : FoldRead
 
       -- What `write_fold` asks.
       pub original-ready : Original file
-      original-ready = let F = file-ready in record { within = λ i h. F .inside i (omega (arith, R .rows)); read = λ i h. F .decoded i (omega (arith, R .rows)); accepted = F .accepted }
+      original-ready = record { file = subst (Ready file) (R .rows) (file-ready .file); accepted = file-ready .accepted }
 
       pub phases-from : 1 ≤ clocks .phases
       phases-from = omega (arith, phases-is, phases-pos wish ps)

@@ -30,7 +30,7 @@ use Rattle.blockfile.specs.RowCode.{fieldsIn}
 use Rattle.blockfile.specs.declared.Fields.{Fields}
 use Rattle.blockfile.proofs.CountLaws.{count-next, count-place, count-some-le}
 use Rattle.lasso_finder.specs.WorkMap.{knownPlace, entryPlace, entryIn, entriesIn}
-use Rattle.lasso_finder.specs.StateMap.{Ready, registersBefore, AtRow}
+use Rattle.lasso_finder.specs.StateMap.{AnalysisReady, registersBefore, AtRow}
 use Rattle.lasso_finder.specs.Stages.{lassoIn, periodAt, knownBytes, KnownPart, entryBytes, KnownRegisters, EntryReady, entryPut, entryFrom, entriesFrom, EntryPart}
 use Rattle.lasso_finder.proofs.StepLaws.{row-within, register-is, register-at}
 use Rattle.lasso_finder.proofs.KnownLaws.{known-first, is-register, positive}
@@ -107,7 +107,7 @@ pub entries-start : (rows : List Row) (w : List ℕ) → EntryPart rows w w 0 0
 unfolding entriesFrom
 entries-start rows w = record { entries = refl; few = omega arith; kept = kept-none (entryPlace 0) (entryPlace foldClockEntries) w }
 
-module _ {f : List ℕ} {n : ℕ} (R : Ready f n) {w w′ : List ℕ} {i e : ℕ} (within : i < n) (room : foldWorkBytes ≤ length w) (registers : KnownRegisters (netlistOf f) w) (E : EntryPart (netlistOf f) w w′ i e) where
+module _ {f : List ℕ} {n : ℕ} (R : AnalysisReady f n) {w w′ : List ℕ} {i e : ℕ} (within : i < n) (room : foldWorkBytes ≤ length w) (registers : KnownRegisters (netlistOf f) w) (E : EntryPart (netlistOf f) w w′ i e) where
   -- The known bytes stay.
   known-stay : (x : ℕ) → knownPlace 0 ≤ x → byteAt w′ x ≡ byteAt w x
   known-stay x h = E .kept .after x (omega arith)
@@ -124,7 +124,7 @@ module _ {f : List ℕ} {n : ℕ} (R : Ready f n) {w w′ : List ℕ} {i e : ℕ
       }
 
   inside : i < length (netlistOf f)
-  inside = let c = R .count in omega arith
+  inside = let c = R .file .count in omega arith
 
   inside-next : i + 1 ≤ length (netlistOf f)
   inside-next = let h = inside in omega arith

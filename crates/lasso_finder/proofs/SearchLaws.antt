@@ -20,7 +20,7 @@ use Rattle.netlist.specs.Rows.{Row, isRegister}
 use Rattle.netlist.specs.FileFormat.{netlistOf}
 use Rattle.lasso.specs.LassoSearch.{isRepeat, earlierEqual, firstRepeat, Lasso, findLasso}
 use Rattle.lasso_finder.specs.WorkMap.{knownPlace}
-use Rattle.lasso_finder.specs.StateMap.{Ready, statePlace, valuePlace, nextPlace, Packed, stateCodes, Stored, Started, Searched}
+use Rattle.lasso_finder.specs.StateMap.{AnalysisReady, statePlace, valuePlace, nextPlace, Packed, stateCodes, Stored, Started, Searched}
 use Rattle.lasso_finder.specs.Outcome.{WorkReady}
 use Rattle.lasso_finder.specs.Stages.{sameWord, repeatOf, LassoDone}
 use Rattle.lasso_finder.specs.declared.search.Repeat.the-variants.{Found, Never}
@@ -135,7 +135,7 @@ module _ {rows : List Row} {n : ℕ} {w w₁ : List ℕ} (count : n ≡ length r
 
 -- ---- the comparison of states k and m
 
-module _ {f : List ℕ} {n : ℕ} (R : Ready f n) {w : List ℕ} {m k words registers old new : ℕ} (small : m ≤ lastState) (less : k < m) (D : Searched (netlistOf f) w (m + 1)) (count : registers ≡ countIf isRegister (netlistOf f)) (size : words ≡ (registers + 31) / 32) (at-old : old ≡ statePlace k) (at-new : new ≡ statePlace m) where
+module _ {f : List ℕ} {n : ℕ} (R : AnalysisReady f n) {w : List ℕ} {m k words registers old new : ℕ} (small : m ≤ lastState) (less : k < m) (D : Searched (netlistOf f) w (m + 1)) (count : registers ≡ countIf isRegister (netlistOf f)) (size : words ≡ (registers + 31) / 32) (at-old : old ≡ statePlace k) (at-new : new ≡ statePlace m) where
   pub same-asks : (old + 8 * words ≤ length w) × (new + 8 * words ≤ length w)
   same-asks =
       let few = R .registers in

@@ -109,20 +109,20 @@ module _ {f : List ℕ} {n i j : ℕ} (A : AtRow f n i j) where
   rows = netlistOf f
 
   pub row-within : i < length (netlistOf f)
-  row-within = let e = A .ready .count in let h = A .within in omega arith
+  row-within = let e = A .ready .file .count in let h = A .within in omega arith
 
   pub row-small : i < mostOriginalRows
   row-small = let s = A .ready .accepted .small in let h = row-within in omega arith
 
   pub read-asks : (i < mostRows) × (rowOffset i + 8 ≤ length f)
-  read-asks = let s = row-small in (omega arith, A .ready .inside i (A .within))
+  read-asks = let s = row-small in (omega arith, A .ready .file .inside i (A .within))
 
   pub number-small : j ≤ mostOriginalRegisters
   number-small = let h = row-within in omega (arith, A .number, A .ready .registers, count-some-le isRegister constant (netlistOf f) i .1)
 
   module _ (r : Fields) (read : fieldsIn r ≡ readFields f i) where
     row-is : rowAt (netlistOf f) i ≡ decodeRow (fieldsIn r)
-    row-is = A .ready .decoded i (A .within) ∙ ap decodeRow (sym read)
+    row-is = A .ready .file .row-is i (A .within) ∙ ap decodeRow (sym read)
 
     pub register-is : isRegister (rowAt (netlistOf f) i) ≡ isRegister (decodeRow (fieldsIn r))
     register-is = ap isRegister row-is

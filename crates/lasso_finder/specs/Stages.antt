@@ -20,7 +20,7 @@ use Rattle.lasso.specs.LassoSearch.{Lasso, findLasso}
 use Rattle.lasso.specs.Generators.{periodOf, periodsOf, isUsed, clockValue}
 use Rattle.lasso.specs.ClockEntries.{ClockEntry, clockWord}
 use Rattle.lasso_finder.specs.WorkMap.{knownPlace, entryPlace, entriesIn}
-use Rattle.lasso_finder.specs.StateMap.{Ready, statePlace, valuePlace, nextPlace, codeAt, registersBefore, Stored}
+use Rattle.lasso_finder.specs.StateMap.{AnalysisReady, statePlace, valuePlace, nextPlace, codeAt, registersBefore, Stored}
 use Rattle.lasso_finder.specs.declared.search.Repeat.{Repeat}
 use Rattle.lasso_finder.specs.declared.search.Repeat.the-variants.{Found, Never}
 
@@ -125,7 +125,7 @@ KnownRegisters rows w = (x : ℕ) → x < length rows → (byteAt w (knownPlace 
 
 -- What putting the entry of row i as entry e asks, and what it leaves.
 pub record EntryReady (f : List ℕ) (n : ℕ) (w : List ℕ) (i e : ℕ) : Type 0 where
-  pub ready : Ready f n
+  pub ready : AnalysisReady f n
   pub within : i < n
   pub room : foldWorkBytes ≤ length w
   pub few : e ≤ registersBefore (netlistOf f) i

@@ -1,5 +1,5 @@
 -- Fold's work memory while the lasso is sought: the states, four registers to a byte, each row's value, a byte each, and the registers' next-value literals, two bytes each.
--- Interface: Ready (what an accepted file gives), statePlace, valuePlace, nextPlace, Packed, Stored, Valued.
+-- Interface: AnalysisReady (what an accepted file gives), statePlace, valuePlace, nextPlace, Packed, Stored, Valued.
 -- Assumes nothing.
 use Prim.Native.Nat.{ℕ, _+_, _*_, _<_, _≤_, _/_, _%_, _^_}
 use mathlib.Core.Path.{_≡_}
@@ -11,21 +11,20 @@ use Rattle.memory.specs.Fields.{byteAt, u16At}
 use Rattle.ternary.specs.Ternary.{Ternary, X, codeOf, valueOf}
 use Rattle.netlist.specs.Limits.{mostOriginalRows, mostOriginalRegisters, foldWorkBytes, lastState}
 use Rattle.netlist.specs.Rows.{Row, decodeRow, rowAt, onRegister, isRegister}
-use Rattle.netlist.specs.FileFormat.{rowOffset, readFields, netlistOf}
+use Rattle.netlist.specs.FileFormat.{rowOffset, netlistOf}
 use Rattle.netlist.specs.Simulation.{ternaryLogic, literalValue, rowValue, runValue}
 use Rattle.netlist.proofs.WellFormed.{OperandsBelow, AcceptedRows}
 use Rattle.lasso.specs.Generators.{stateValue}
 use Rattle.lasso_finder.specs.WorkMap.{knownPlace}
 use Rattle.blockfile.specs.RowCode.{fieldsIn}
 use Rattle.blockfile.specs.declared.Fields.{Fields}
+use Rattle.blockfile.specs.Ready.{Ready}
 
--- The n rows of the file f are right by questions 6 to 13, and each stands inside the file.
-pub record Ready (f : List ℕ) (n : ℕ) : Type 0 where
-  pub count : n ≡ length (netlistOf f)
+-- The n rows of the file f stand in it, and are right by questions 6 to 13.
+pub record AnalysisReady (f : List ℕ) (n : ℕ) : Type 0 where
+  pub file : Ready f n
   pub accepted : AcceptedRows (netlistOf f)
   pub registers : countIf isRegister (netlistOf f) ≤ mostOriginalRegisters
-  pub inside : (i : ℕ) → i < n → rowOffset i + 8 ≤ length f
-  pub decoded : (i : ℕ) → i < n → rowAt (netlistOf f) i ≡ decodeRow (readFields f i)
 
 -- ---- places
 
@@ -110,13 +109,13 @@ rowIn w r base j = rowValue ternaryLogic (valueOf (codeAt w base j)) (λ l p. X)
 
 -- Row i is one of the n rows of the file f, and j registers stand before it.
 pub record AtRow (f : List ℕ) (n i j : ℕ) : Type 0 where
-  pub ready : Ready f n
+  pub ready : AnalysisReady f n
   pub within : i < n
   pub number : j ≡ registersBefore (netlistOf f) i
 
 -- Rows start to stop - 1 are rows of the file f, which has n, and of one block, whose first row is row start and stands at `first`; `before` registers stand before it.
 pub record InBlock (f : List ℕ) (n start stop first before : ℕ) : Type 0 where
-  pub ready : Ready f n
+  pub ready : AnalysisReady f n
   pub starts : start % 63 ≡ 0
   pub from : start ≤ stop
   pub few : stop ≤ start + 63

@@ -9,7 +9,7 @@ ghost use Rattle.memory.specs.Fields.{byteAt};
 ghost use Rattle.netlist.specs.Limits.{foldWorkBytes, foldClockEntries};
 ghost use Rattle.netlist.specs.FileFormat.{netlistOf};
 ghost use Rattle.lasso_finder.specs.WorkMap.{knownPlace, entryPlace};
-ghost use Rattle.lasso_finder.specs.StateMap.{Ready};
+ghost use Rattle.lasso_finder.specs.StateMap.{AnalysisReady};
 ghost use Rattle.lasso_finder.specs.Stages.{entryBytes, EntryReady, entryPut, KnownRegisters, EntryPart};
 use crate::known;
 
@@ -51,7 +51,7 @@ fn entry_row(file: &[u8], rows: usize, row: usize, work: &mut [u8], e: usize) ->
 
 // Puts one entry for each used generator, in row order; answers their number.
 pub fn put_entries(file: &[u8], rows: usize, work: &mut [u8]) -> usize
-    requires { ⌜ Ready (now file) rows ⌝ }
+    requires { ⌜ AnalysisReady (now file) rows ⌝ }
     requires { ⌜ (foldWorkBytes ≤ length (now work)) × KnownRegisters (netlistOf (now file)) (now work) ⌝ }
     ensures { λ r. ⌜ EntryPart (netlistOf (now (file .entry))) (now (work .entry)) (now (work .exit)) rows r ⌝ }
 {

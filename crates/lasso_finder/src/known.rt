@@ -9,7 +9,7 @@ ghost use Rattle.netlist.specs.Limits.{mostPhases, mostOriginalRows, foldWorkBy
 ghost use Rattle.netlist.specs.FileFormat.{netlistOf};
 ghost use Rattle.lasso.specs.ClockEntries.{clockWord};
 ghost use Rattle.lasso_finder.specs.WorkMap.{knownPlace};
-ghost use Rattle.lasso_finder.specs.StateMap.{Ready, registersBefore, AtRow};
+ghost use Rattle.lasso_finder.specs.StateMap.{AnalysisReady, registersBefore, AtRow};
 ghost use Rattle.lasso_finder.specs.Stages.{WordReady, phaseValue, PeriodPart, KnownPart};
 use crate::periods;
 use crate::states;
@@ -80,7 +80,7 @@ fn known_row(
 
 // Puts what is known of every row.
 pub fn find_known(file: &[u8], rows: usize, work: &mut [u8], phases: usize)
-    requires { ⌜ Ready (now file) rows ⌝ }
+    requires { ⌜ AnalysisReady (now file) rows ⌝ }
     requires { ⌜ (1 ≤ phases) × ((phases ≤ mostPhases) × PeriodPart (netlistOf (now file)) (now work) rows) ⌝ }
     ensures { λ _. ⌜ KeptOutside (knownPlace 0) (knownPlace mostOriginalRows) (now (work .entry)) (now (work .exit)) × KnownPart (netlistOf (now (file .entry))) phases (now (work .exit)) rows ⌝ }
 {

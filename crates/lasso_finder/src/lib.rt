@@ -2,7 +2,7 @@
 ghost use Prim.Native.Nat.{_≤_};
 ghost use Rattle.netlist.specs.Limits.{mostPhases};
 ghost use Rattle.netlist.specs.FileFormat.{netlistOf};
-ghost use Rattle.lasso_finder.specs.StateMap.{Ready};
+ghost use Rattle.lasso_finder.specs.StateMap.{AnalysisReady};
 ghost use Rattle.lasso_finder.specs.Outcome.{WorkReady, Analysed};
 
 mod entries;
@@ -26,7 +26,7 @@ pub enum Analysis {
 
 // Then `work` has what is known of each row in each phase, and the clock entries.
 pub fn analyse(file: &[u8], rows: usize, wish: usize, work: &mut [u8]) -> Analysis
-    requires { ⌜ Ready (now file) rows ⌝ }
+    requires { ⌜ AnalysisReady (now file) rows ⌝ }
     requires { ⌜ (wish ≤ mostPhases) × WorkReady (now work) ⌝ }
     ensures { λ r. ⌜ Analysed (netlistOf (now (file .entry))) wish (now (work .entry)) (now (work .exit)) r ⌝ }
 {

@@ -8,7 +8,7 @@ ghost use Rattle.memory.specs.Frames.{KeptOutside};
 ghost use Rattle.netlist.specs.Limits.{mostPhases, mostOriginalRows, mostOriginalRegisters, foldWorkBytes, lastState};
 ghost use Rattle.netlist.specs.FileFormat.{netlistOf};
 ghost use Rattle.lasso.specs.Generators.{isUsed, usedCount, bestPhaseCount, phaseCount};
-ghost use Rattle.lasso_finder.specs.StateMap.{Ready, valuePlace, registersBefore, AtRow};
+ghost use Rattle.lasso_finder.specs.StateMap.{AnalysisReady, valuePlace, registersBefore, AtRow};
 ghost use Rattle.lasso_finder.specs.Stages.{lassoIn, Lassoed, holdsAs, repeatsIn, generatorIn, periodIn, PeriodPart, periodBytes};
 use crate::states;
 
@@ -113,7 +113,7 @@ fn period_row(
 
 // Puts each row's period in place of its value: 0 if it has none, or none up to 8.
 pub fn find_periods(file: &[u8], rows: usize, work: &mut [u8], stem: usize, cycle: usize)
-    requires { ⌜ Ready (now file) rows ⌝ }
+    requires { ⌜ AnalysisReady (now file) rows ⌝ }
     requires { ⌜ (stem ≡ lassoIn (netlistOf (now file)) .stem) × ((cycle ≡ lassoIn (netlistOf (now file)) .cycle) × Lassoed (netlistOf (now file)) (now work)) ⌝ }
     ensures { λ _. ⌜ KeptOutside (valuePlace 0) (valuePlace mostOriginalRows) (now (work .entry)) (now (work .exit)) × PeriodPart (netlistOf (now (file .entry))) (now (work .exit)) rows ⌝ }
 {

@@ -4,7 +4,7 @@ ghost use Prim.Native.Nat.{_+_, _*_, _≤_};
 ghost use lib.ListN.{length};
 ghost use Rattle.memory.specs.Lists.{allBelow};
 ghost use Rattle.netlist.specs.FileFormat.{netlistOf};
-ghost use Rattle.lasso_finder.specs.StateMap.{Ready};
+ghost use Rattle.lasso_finder.specs.StateMap.{AnalysisReady};
 ghost use Rattle.lasso_finder.specs.Outcome.{WorkReady};
 ghost use Rattle.lasso_finder.specs.Stages.{wordAt, sameWord, LassoDone};
 use crate::states;
@@ -47,7 +47,7 @@ pub enum Repeat {
 
 // Compares each new state with the earlier ones from state 0 up, until one is equal.
 pub fn find_lasso(file: &[u8], rows: usize, work: &mut [u8]) -> Repeat
-    requires { ⌜ Ready (now file) rows ⌝ }
+    requires { ⌜ AnalysisReady (now file) rows ⌝ }
     requires { ⌜ WorkReady (now work) ⌝ }
     ensures { λ r. ⌜ LassoDone (netlistOf (now (file .entry))) (now (work .entry)) (now (work .exit)) r ⌝ }
 {

@@ -21,10 +21,10 @@ phase-count-requires : tie.Need-phase-count-requires
 phase-count-requires c κs = search needs
 
 find-known-requires : tie.Need-find-known-requires
-find-known-requires c κs = ((c .before .before .before .before .before .before .before .before .before .before .before .before .before .before .before .before .pre .0), (phases-from (c .before .before .before .before .before .before .before .before .before .before .before .before .find-lasso .ensures) (c .before .before .before .before .before .before .before .before .repeat .given .1) (c .before .before .before .before .before .before .before .before .before .before .before .before .before .before .before .before .pre .1 .1) (c .before .before .before .before .before .before .before .before .before .before .before .before .before .before .before .before .pre .0 .count) (c .before .before .before .before .before .find-periods .ensures .0) (c .before .before .before .before .before .find-periods .ensures .1) (c .before .phase-count .ensures) (c .before .before .before .before .before .before .before .before .before .before .before .before .before .before .before .before .pre .1 .0), (phases-to (c .before .before .before .before .before .before .before .before .before .before .before .before .find-lasso .ensures) (c .before .before .before .before .before .before .before .before .repeat .given .1) (c .before .before .before .before .before .before .before .before .before .before .before .before .before .before .before .before .pre .1 .1) (c .before .before .before .before .before .before .before .before .before .before .before .before .before .before .before .before .pre .0 .count) (c .before .before .before .before .before .find-periods .ensures .0) (c .before .before .before .before .before .find-periods .ensures .1) (c .before .phase-count .ensures) (c .before .before .before .before .before .before .before .before .before .before .before .before .before .before .before .before .pre .1 .0), (c .before .before .before .before .before .find-periods .ensures .1))))
+find-known-requires c κs = ((c .before .before .before .before .before .before .before .before .before .before .before .before .before .before .before .before .pre .0), (phases-from (c .before .before .before .before .before .before .before .before .before .before .before .before .find-lasso .ensures) (c .before .before .before .before .before .before .before .before .repeat .given .1) (c .before .before .before .before .before .before .before .before .before .before .before .before .before .before .before .before .pre .1 .1) (c .before .before .before .before .before .before .before .before .before .before .before .before .before .before .before .before .pre .0 .file .count) (c .before .before .before .before .before .find-periods .ensures .0) (c .before .before .before .before .before .find-periods .ensures .1) (c .before .phase-count .ensures) (c .before .before .before .before .before .before .before .before .before .before .before .before .before .before .before .before .pre .1 .0), (phases-to (c .before .before .before .before .before .before .before .before .before .before .before .before .find-lasso .ensures) (c .before .before .before .before .before .before .before .before .repeat .given .1) (c .before .before .before .before .before .before .before .before .before .before .before .before .before .before .before .before .pre .1 .1) (c .before .before .before .before .before .before .before .before .before .before .before .before .before .before .before .before .pre .0 .file .count) (c .before .before .before .before .before .find-periods .ensures .0) (c .before .before .before .before .before .find-periods .ensures .1) (c .before .phase-count .ensures) (c .before .before .before .before .before .before .before .before .before .before .before .before .before .before .before .before .pre .1 .0), (c .before .before .before .before .before .find-periods .ensures .1))))
 
 put-entries-requires : tie.Need-put-entries-requires
-put-entries-requires c κs = ((c .before .before .before .before .before .before .before .before .before .before .before .before .before .before .before .before .before .before .before .before .pre .0), entries-ask (c .before .before .before .before .before .before .before .before .before .before .before .before .before .before .before .before .find-lasso .ensures) (c .before .before .before .before .before .before .before .before .before .before .before .before .repeat .given .1) (c .before .before .before .before .before .before .before .before .before .before .before .before .before .before .before .before .before .before .before .before .pre .1 .1) (c .before .before .before .before .before .before .before .before .before .before .before .before .before .before .before .before .before .before .before .before .pre .0 .count) (c .before .before .before .before .before .before .before .before .before .find-periods .ensures .0) (c .before .before .before .before .before .before .before .before .before .find-periods .ensures .1) (c .before .before .before .before .before .phase-count .ensures) (c .before .before .before .before .before .before .before .before .before .before .before .before .before .before .before .before .before .before .before .before .pre .1 .0) (c .before .before .before .find-known .ensures .0) (c .before .before .before .find-known .ensures .1))
+put-entries-requires c κs = ((c .before .before .before .before .before .before .before .before .before .before .before .before .before .before .before .before .before .before .before .before .pre .0), entries-ask (c .before .before .before .before .before .before .before .before .before .before .before .before .before .before .before .before .find-lasso .ensures) (c .before .before .before .before .before .before .before .before .before .before .before .before .repeat .given .1) (c .before .before .before .before .before .before .before .before .before .before .before .before .before .before .before .before .before .before .before .before .pre .1 .1) (c .before .before .before .before .before .before .before .before .before .before .before .before .before .before .before .before .before .before .before .before .pre .0 .file .count) (c .before .before .before .before .before .before .before .before .before .find-periods .ensures .0) (c .before .before .before .before .before .before .before .before .before .find-periods .ensures .1) (c .before .before .before .before .before .phase-count .ensures) (c .before .before .before .before .before .before .before .before .before .before .before .before .before .before .before .before .before .before .before .before .pre .1 .0) (c .before .before .before .find-known .ensures .0) (c .before .before .before .find-known .ensures .1))
 
 same-length : tie.Need-same-length
 same-length c = search needs
@@ -36,7 +36,7 @@ same-length-2 : tie.Need-same-length-2
 same-length-2 c = search needs
 
 returns-2 : tie.Need-returns-2
-returns-2 c = analysed-found (c .before .before .before .before .before .before .before .before .before .before .before .before .before .before .before .before .before .before .before .find-lasso .ensures) (c .before .before .before .before .before .before .before .before .before .before .before .before .before .before .before .repeat .given .1) (c .before .before .before .before .before .before .before .before .before .before .before .before .before .before .before .before .before .before .before .before .before .before .before .pre .1 .1) (c .before .before .before .before .before .before .before .before .before .before .before .before .before .before .before .before .before .before .before .before .before .before .before .pre .0 .count) (c .before .before .before .before .before .before .before .before .before .before .before .before .find-periods .ensures .0) (c .before .before .before .before .before .before .before .before .before .before .before .before .find-periods .ensures .1) (c .before .before .before .before .before .before .before .before .phase-count .ensures) (c .before .before .before .before .before .before .before .before .before .before .before .before .before .before .before .before .before .before .before .before .before .before .before .pre .1 .0) (c .before .before .before .before .before .before .find-known .ensures .0) (c .before .before .before .before .before .before .find-known .ensures .1) (c .before .before .put-entries .ensures)
+returns-2 c = analysed-found (c .before .before .before .before .before .before .before .before .before .before .before .before .before .before .before .before .before .before .before .find-lasso .ensures) (c .before .before .before .before .before .before .before .before .before .before .before .before .before .before .before .repeat .given .1) (c .before .before .before .before .before .before .before .before .before .before .before .before .before .before .before .before .before .before .before .before .before .before .before .pre .1 .1) (c .before .before .before .before .before .before .before .before .before .before .before .before .before .before .before .before .before .before .before .before .before .before .before .pre .0 .file .count) (c .before .before .before .before .before .before .before .before .before .before .before .before .find-periods .ensures .0) (c .before .before .before .before .before .before .before .before .before .before .before .before .find-periods .ensures .1) (c .before .before .before .before .before .before .before .before .phase-count .ensures) (c .before .before .before .before .before .before .before .before .before .before .before .before .before .before .before .before .before .before .before .before .before .before .before .pre .1 .0) (c .before .before .before .before .before .before .find-known .ensures .0) (c .before .before .before .before .before .before .find-known .ensures .1) (c .before .before .put-entries .ensures)
 
 pub analyse-spec : {M : Type 1} → statement M
 analyse-spec =

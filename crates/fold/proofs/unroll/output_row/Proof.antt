@@ -11,7 +11,7 @@ row-place-requires c κs = search needs
 shared-slice-read-kind : tie.Need-shared-slice-read-kind
 shared-slice-read-kind c =
     let s = c .before .before .before .before .before in
-    let w = s .pre .0 .0 .within (s .args .i) (s .pre .0 .1) in
+    let w = s .pre .0 .0 .file .inside (s .args .i) (s .pre .0 .1) in
     search needs
 
 returns : tie.Need-returns
@@ -23,7 +23,7 @@ add-at-label c = search needs
 field-at-requires : tie.Need-field-at-requires
 field-at-requires c κs =
     let s = c .before .before .before .before .before .before in
-    let w = s .pre .0 .0 .within (s .args .i) (s .pre .0 .1) in
+    let w = s .pre .0 .0 .file .inside (s .args .i) (s .pre .0 .1) in
     search needs
 
 cast-label : tie.Need-cast-label

@@ -21,7 +21,7 @@ abbrev μ-rows : tie.MeasureT-rows
 μ-rows file rows work₀ phases i₀ j₀ work i j = rows - i
 
 rows-holds : tie.Need-rows-holds Inv-rows μ-rows
-rows-holds c = (omega arith, (refl, (kept-none (knownPlace 0) (knownPlace mostOriginalRows) (c .before .before .args .work .now), record { part = subst (PeriodPart (netlistOf (c .before .before .args .file .now)) (c .before .before .args .work .now)) (c .before .before .pre .0 .count) (c .before .before .pre .1 .1 .1); known = λ x h. absurd (omega arith) })))
+rows-holds c = (omega arith, (refl, (kept-none (knownPlace 0) (knownPlace mostOriginalRows) (c .before .before .args .work .now), record { part = subst (PeriodPart (netlistOf (c .before .before .args .file .now)) (c .before .before .args .work .now)) (c .before .before .pre .0 .file .count) (c .before .before .pre .1 .1 .1); known = λ x h. absurd (omega arith) })))
 
 known-row-requires : tie.Need-known-row-requires Inv-rows μ-rows
 known-row-requires c κs = (record { ready = (c .before .before .before .before .before .pre .0); within = omega arith; number = (c .before .before .rows .inv .1 .0) }, ((c .before .before .before .before .before .pre .1 .0), ((c .before .before .before .before .before .pre .1 .1 .0), (c .before .before .rows .inv .1 .1 .1))))

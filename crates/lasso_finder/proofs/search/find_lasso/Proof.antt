@@ -29,7 +29,7 @@ add-words : tie.Need-add-words Inv-history μ-history Inv-states μ-states
 add-words c = let e = (c .before .before .start .ensures .0) in let few = (c .before .before .before .before .before .before .pre .0 .registers) in omega arith
 
 states-holds : tie.Need-states-holds Inv-history μ-history Inv-states μ-states
-states-holds c = (sought-start (c .before .before .before .before .before .before .pre .0 .count) (c .before .before .start .ensures .1 .0) (c .before .before .start .ensures .1 .1), refl)
+states-holds c = (sought-start (c .before .before .before .before .before .before .pre .0 .file .count) (c .before .before .start .ensures .1 .0) (c .before .before .start .ensures .1 .1), refl)
 
 advance-requires : tie.Need-advance-requires Inv-history μ-history Inv-states μ-states
 advance-requires c κs = (((c .before .before .before .before .before .before .before .before .before .pre .0), (c .before .before .before .before .before .start .ensures .0)), ((c .before .before .states .inv .0 .from), (omega arith, (c .before .before .states .inv .0 .searched))))
@@ -65,19 +65,19 @@ states-less : tie.Need-states-less Inv-history μ-history Inv-states μ-states
 states-less c = omega arith
 
 states-again : tie.Need-states-again Inv-history μ-history Inv-states μ-states
-states-again c = (sought-next (c .before .before .before .before .before .before .before .before .before .before .before .before .before .before .before .pre .0 .count) (c .before .before .before .before .before .before .before .before .before .before .before .start .ensures .1 .0) (c .before .before .before .before .before .before .before .before .states .inv .0) (c .before .before .before .before .before .before .before .states-test .taken) (c .before .before .before .before .before .advance .ensures .0) (c .before .before .before .before .before .advance .ensures .1) (λ n h. (c .before .history .inv .1 .1) n (omega arith)), (c .before .history .inv .1 .0) ∙ (c .before .before .before .before .before .before .before .before .states .inv .1))
+states-again c = (sought-next (c .before .before .before .before .before .before .before .before .before .before .before .before .before .before .before .pre .0 .file .count) (c .before .before .before .before .before .before .before .before .before .before .before .start .ensures .1 .0) (c .before .before .before .before .before .before .before .before .states .inv .0) (c .before .before .before .before .before .before .before .states-test .taken) (c .before .before .before .before .before .advance .ensures .0) (c .before .before .before .before .before .advance .ensures .1) (λ n h. (c .before .history .inv .1 .1) n (omega arith)), (c .before .history .inv .1 .0) ∙ (c .before .before .before .before .before .before .before .before .states .inv .1))
 
 same-length : tie.Need-same-length Inv-history μ-history Inv-states μ-states
 same-length c = (c .before .states .inv .0 .kept .long) ∙ (c .before .before .before .before .start .ensures .1 .0 .long)
 
 returns : tie.Need-returns Inv-history μ-history Inv-states μ-states
-returns c = subst (LassoDone (netlistOf (c .before .before .before .before .before .before .before .before .args .file .now)) (c .before .before .before .before .before .before .before .before .args .work .now) (c .before .states .work)) (sym (c .before .states .inv .1)) (sought-never (c .before .before .before .before .before .before .before .before .pre .0 .count) (c .before .before .before .before .start .ensures .1 .0) (c .before .states .inv .0) (omega arith))
+returns c = subst (LassoDone (netlistOf (c .before .before .before .before .before .before .before .before .args .file .now)) (c .before .before .before .before .before .before .before .before .args .work .now) (c .before .states .work)) (sym (c .before .states .inv .1)) (sought-never (c .before .before .before .before .before .before .before .before .pre .0 .file .count) (c .before .before .before .before .start .ensures .1 .0) (c .before .states .inv .0) (omega arith))
 
 same-length-2 : tie.Need-same-length-2 Inv-history μ-history Inv-states μ-states
 same-length-2 c = (c .before .before .before .before .before .before .before .before .before .advance .ensures .0 .long) ∙ (c .before .before .before .before .before .before .before .before .before .before .before .before .states .inv .0 .kept .long) ∙ (c .before .before .before .before .before .before .before .before .before .before .before .before .before .before .before .start .ensures .1 .0 .long)
 
 returns-2 : tie.Need-returns-2 Inv-history μ-history Inv-states μ-states
-returns-2 c = sought-found (c .before .before .before .before .before .before .before .before .before .before .before .before .before .before .before .before .before .before .before .pre .0 .count) (c .before .before .before .before .before .before .before .before .before .before .before .before .before .before .before .start .ensures .1 .0) (c .before .before .before .before .before .before .before .before .before .before .before .before .states .inv .0) (c .before .before .before .before .before .before .before .before .before .before .before .states-test .taken) (c .before .before .before .before .before .before .before .before .before .advance .ensures .0) (c .before .before .before .before .before .before .before .before .before .advance .ensures .1) (c .before .before .before .before .before .history .k) (c .before .before .before .before .history-test .taken) (c .before .before .before .before .before .history .inv .1 .1) (sym (repeat-is (c .before .before .before .before .before .before .before .before .before .before .before .before .before .before .before .before .before .before .before .pre .0) (c .before .before .before .before .before .before .before .before .before .before .before .states-test .taken) (c .before .before .before .before .history-test .taken) (c .before .before .before .before .before .before .before .before .before .advance .ensures .1) (c .before .before .before .before .before .before .before .before .before .before .before .before .before .before .before .start .ensures .0) refl (c .before .before .before .state-place2 .ensures) (c .before .before .before .before .before .before .state-place .ensures) (λ x. omega (arith, (c .before .before .before .before .before .before .before .slice-known3 .given) x)) (c .before .same-state .result) (c .before .same-state .ensures)) ∙ (c .if1 .taken))
+returns-2 c = sought-found (c .before .before .before .before .before .before .before .before .before .before .before .before .before .before .before .before .before .before .before .pre .0 .file .count) (c .before .before .before .before .before .before .before .before .before .before .before .before .before .before .before .start .ensures .1 .0) (c .before .before .before .before .before .before .before .before .before .before .before .before .states .inv .0) (c .before .before .before .before .before .before .before .before .before .before .before .states-test .taken) (c .before .before .before .before .before .before .before .before .before .advance .ensures .0) (c .before .before .before .before .before .before .before .before .before .advance .ensures .1) (c .before .before .before .before .before .history .k) (c .before .before .before .before .history-test .taken) (c .before .before .before .before .before .history .inv .1 .1) (sym (repeat-is (c .before .before .before .before .before .before .before .before .before .before .before .before .before .before .before .before .before .before .before .pre .0) (c .before .before .before .before .before .before .before .before .before .before .before .states-test .taken) (c .before .before .before .before .history-test .taken) (c .before .before .before .before .before .before .before .before .before .advance .ensures .1) (c .before .before .before .before .before .before .before .before .before .before .before .before .before .before .before .start .ensures .0) refl (c .before .before .before .state-place2 .ensures) (c .before .before .before .before .before .before .state-place .ensures) (λ x. omega (arith, (c .before .before .before .before .before .before .before .slice-known3 .given) x)) (c .before .same-state .result) (c .before .same-state .ensures)) ∙ (c .if1 .taken))
 
 pub find-lasso-spec : {M : Type 1} → statement M
 find-lasso-spec =

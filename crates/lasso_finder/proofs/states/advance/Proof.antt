@@ -13,13 +13,13 @@ evaluate-requires : tie.Need-evaluate-requires
 evaluate-requires c κs = ((c .before .before .before .pre .0 .0), (omega arith, evaluate-asks (c .before .before .before .pre .1 .0) (c .before .before .before .pre .1 .1 .0) (c .before .before .before .pre .1 .1 .1)))
 
 pack-next-requires : tie.Need-pack-next-requires
-pack-next-requires c κs = pack-asks (c .before .before .before .before .before .before .before .pre .1 .0) (c .before .before .before .before .before .before .before .pre .1 .1 .0) (c .before .before .before .before .before .before .before .pre .1 .1 .1) (c .before .before .before .before .before .before .before .pre .0 .0 .accepted) (c .before .before .before .before .before .before .before .pre .0 .0 .registers) (c .before .before .before .before .before .before .before .pre .0 .0 .count) (c .before .before .before .before .before .before .before .pre .0 .1) (c .before .before .before .evaluate .ensures .0) (c .before .before .before .evaluate .ensures .1)
+pack-next-requires c κs = pack-asks (c .before .before .before .before .before .before .before .pre .1 .0) (c .before .before .before .before .before .before .before .pre .1 .1 .0) (c .before .before .before .before .before .before .before .pre .1 .1 .1) (c .before .before .before .before .before .before .before .pre .0 .0 .accepted) (c .before .before .before .before .before .before .before .pre .0 .0 .registers) (c .before .before .before .before .before .before .before .pre .0 .0 .file .count) (c .before .before .before .before .before .before .before .pre .0 .1) (c .before .before .before .evaluate .ensures .0) (c .before .before .before .evaluate .ensures .1)
 
 same-length : tie.Need-same-length
 same-length c = search needs
 
 returns : tie.Need-returns
-returns c = (advance-kept (c .before .before .before .before .before .before .before .before .before .before .pre .1 .0) (c .before .before .before .before .before .before .before .before .before .before .pre .1 .1 .0) (c .before .before .before .before .before .before .before .before .before .before .pre .1 .1 .1) (c .before .before .before .before .before .before .before .before .before .before .pre .0 .0 .accepted) (c .before .before .before .before .before .before .before .before .before .before .pre .0 .0 .registers) (c .before .before .before .before .before .before .before .before .before .before .pre .0 .0 .count) (c .before .before .before .before .before .before .before .before .before .before .pre .0 .1) (c .before .before .before .before .before .before .evaluate .ensures .0) (c .before .before .before .before .before .before .evaluate .ensures .1) (c .before .before .pack-next .ensures .0) (c .before .before .pack-next .ensures .1), advance-done (c .before .before .before .before .before .before .before .before .before .before .pre .1 .0) (c .before .before .before .before .before .before .before .before .before .before .pre .1 .1 .0) (c .before .before .before .before .before .before .before .before .before .before .pre .1 .1 .1) (c .before .before .before .before .before .before .before .before .before .before .pre .0 .0 .accepted) (c .before .before .before .before .before .before .before .before .before .before .pre .0 .0 .registers) (c .before .before .before .before .before .before .before .before .before .before .pre .0 .0 .count) (c .before .before .before .before .before .before .before .before .before .before .pre .0 .1) (c .before .before .before .before .before .before .evaluate .ensures .0) (c .before .before .before .before .before .before .evaluate .ensures .1) (c .before .before .pack-next .ensures .0) (c .before .before .pack-next .ensures .1))
+returns c = (advance-kept (c .before .before .before .before .before .before .before .before .before .before .pre .1 .0) (c .before .before .before .before .before .before .before .before .before .before .pre .1 .1 .0) (c .before .before .before .before .before .before .before .before .before .before .pre .1 .1 .1) (c .before .before .before .before .before .before .before .before .before .before .pre .0 .0 .accepted) (c .before .before .before .before .before .before .before .before .before .before .pre .0 .0 .registers) (c .before .before .before .before .before .before .before .before .before .before .pre .0 .0 .file .count) (c .before .before .before .before .before .before .before .before .before .before .pre .0 .1) (c .before .before .before .before .before .before .evaluate .ensures .0) (c .before .before .before .before .before .before .evaluate .ensures .1) (c .before .before .pack-next .ensures .0) (c .before .before .pack-next .ensures .1), advance-done (c .before .before .before .before .before .before .before .before .before .before .pre .1 .0) (c .before .before .before .before .before .before .before .before .before .before .pre .1 .1 .0) (c .before .before .before .before .before .before .before .before .before .before .pre .1 .1 .1) (c .before .before .before .before .before .before .before .before .before .before .pre .0 .0 .accepted) (c .before .before .before .before .before .before .before .before .before .before .pre .0 .0 .registers) (c .before .before .before .before .before .before .before .before .before .before .pre .0 .0 .file .count) (c .before .before .before .before .before .before .before .before .before .before .pre .0 .1) (c .before .before .before .before .before .before .evaluate .ensures .0) (c .before .before .before .before .before .before .evaluate .ensures .1) (c .before .before .pack-next .ensures .0) (c .before .before .pack-next .ensures .1))
 
 pub advance-spec : {M : Type 1} → statement M
 advance-spec =

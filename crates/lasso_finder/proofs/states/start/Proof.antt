@@ -38,7 +38,7 @@ same-length : tie.Need-same-length Inv-rows μ-rows
 same-length c = search needs
 
 returns : tie.Need-returns Inv-rows μ-rows
-returns c = let e : (c .before .rows .i) ≡ (c .before .before .before .before .args .rows) = omega arith in ((c .before .rows .inv .1 .0) ∙ ap (registersBefore (netlistOf (c .before .before .before .before .args .file .now))) (e ∙ (c .before .before .before .before .pre .0 .count)) ∙ before-all (netlistOf (c .before .before .before .before .args .file .now)), ((c .before .rows .inv .1 .1 .0), subst (Started (netlistOf (c .before .before .before .before .args .file .now)) (c .before .rows .work)) e (c .before .rows .inv .1 .1 .1)))
+returns c = let e : (c .before .rows .i) ≡ (c .before .before .before .before .args .rows) = omega arith in ((c .before .rows .inv .1 .0) ∙ ap (registersBefore (netlistOf (c .before .before .before .before .args .file .now))) (e ∙ (c .before .before .before .before .pre .0 .file .count)) ∙ before-all (netlistOf (c .before .before .before .before .args .file .now)), ((c .before .rows .inv .1 .1 .0), subst (Started (netlistOf (c .before .before .before .before .args .file .now)) (c .before .rows .work)) e (c .before .rows .inv .1 .1 .1)))
 
 pub start-spec : {M : Type 1} → statement M
 start-spec =
