@@ -16,8 +16,7 @@ use Rattle.netlist.proofs.FileLaws.{read-length, row-at}
 use Rattle.questions.specs.Questions.{noRefusal, lengthRight, namesEarlier, fileRefusal}
 use Rattle.questions.proofs.QuestionLaws.{number-none, items-none}
 use Rattle.questions.proofs.PlainWords.{LengthWords, lengthRight-iff, BlockWords}
-use Rattle.questions.proofs.AcceptedFiles.{FileRight, file-right, block-right}
-use Rattle.blockfile.proofs.ReadyLaws.{last-count}
+use Rattle.questions.proofs.AcceptedFiles.{FileRight, file-right, block-right, last-count, rows-of-file}
 use Rattle.accept.specs.Refusals.{blockAsked, blocksRefusal}
 use Rattle.accept.specs.RowChecks.{BlocksRight, RowsOf}
 
@@ -52,14 +51,14 @@ output-at f i h = ap isOutput (row-at f i h) ∙ output-kind (readFields f i)
 last-block : (f : List ℕ) → LengthWords f → ((B : ℕ) → B < blockCount f → BlockWords (blockCount f) B (blockAt f B)) → BlocksRight f
 last-block f w blocks =
     let n = last-count f w blocks in
-    record { whole = w .whole; some = w .some-blocks; few = w .few-blocks; last-some = n .0; last-most = n .1 }
+    record { size = w; last-some = n .0; last-most = n .1 }
 
 pub blocks-right : (f : List ℕ) → lengthRight f ≡ true → blocksRefusal f ≡ noRefusal → BlocksRight f
 blocks-right f l h =
     last-block f (lengthRight-iff f .0 l) (λ B m. block-right (blockCount f) B (blockAt f B) (items-none (blockCount f) (blockAsked f) (number-none (blocksRefusal f) h) B m))
 
 pub rows-of : (f : List ℕ) → BlocksRight f → RowsOf f (rowCount f)
-rows-of f R = record { counted = refl; few = omega (arith, R .few, R .some, R .last-most); inside = omega (arith, R .some, R .last-most) }
+rows-of f R = record { counted = refl; few = omega (arith, R .size .few-blocks, R .size .some-blocks, R .last-most); inside = omega (arith, R .size .some-blocks, R .last-most) }
 
 -- ---- a file that Check accepts
 
@@ -71,4 +70,4 @@ module _ (f : List ℕ) (accepted : fileRefusal f ≡ noRefusal) where
   accepted-blocks = last-block f (accepted-right .size) (accepted-right .blocks)
 
   pub accepted-count : (1 ≤ length (netlistOf f)) × (length (netlistOf f) ≤ mostRows)
-  accepted-count = (omega (arith, read-length f, accepted-blocks .last-some), omega (arith, read-length f, rows-of f accepted-blocks .few))
+  accepted-count = let n = rows-of-file namesEarlier f accepted-right in (n .0, n .1)

@@ -11,8 +11,8 @@ use borrow.Author.Count.{below-more}
 use borrow.Author.Tests.{lt-ltb, le-ltb}
 use Rattle.memory.proofs.ListLaws.{first-found}
 use Rattle.netlist.specs.FileFormat.{blockCount, fieldsOf}
-use Rattle.questions.specs.Questions.{Refusal, noRefusal, firstRefusal, question, itemQuestions, lengthRight, blockQuestions, namesEarlier, rowsRefusal, fileRefusalWith, fileRefusal}
-use Rattle.questions.proofs.QuestionLaws.{list-next, list-stop, number-none, question-of, items-yes}
+use Rattle.questions.specs.Questions.{Refusal, noRefusal, firstRefusal, itemQuestions, lengthRight, blockQuestions, namesEarlier, rowsRefusal, fileRefusalWith, fileRefusal}
+use Rattle.questions.proofs.QuestionLaws.{list-next, list-stop, number-none, items-yes, list-yes}
 use Rattle.blockfile.specs.declared.blocks.BlockAnswer.{BlockAnswer}
 use Rattle.blockfile.specs.BlockCode.{blockNumber}
 use Rattle.accept.specs.declared.FileRefusal.{FileRefusal}
@@ -90,14 +90,14 @@ module _ (f : List ℕ) where
     blocks-no a x e r =
         let q : refusalIn x ≡ blocksRefusal f = sym (ap acceptRefusal e) ∙ r in
         let p : 0 < blocksRefusal f .number = omega (arith, number-positive x, ap (λ (y : Refusal). y .number) q) in
-        q ∙ sym (list-next (question 1 (lengthRight f)) (blocksRefusal f ∷ rowsRefusal namesEarlier (fieldsOf f) ∷ []) (question-of 1 (lengthRight f) right) ∙ list-stop (blocksRefusal f) (rowsRefusal namesEarlier (fieldsOf f) ∷ []) p)
+        q ∙ sym (list-yes 1 (lengthRight f) (blocksRefusal f ∷ rowsRefusal namesEarlier (fieldsOf f) ∷ []) right ∙ list-stop (blocksRefusal f) (rowsRefusal namesEarlier (fieldsOf f) ∷ []) p)
 
     pub rows-last : (a b : Acceptance) → a ≡ Accepted → acceptRefusal a ≡ blocksRefusal f → acceptRefusal b ≡ rowsRefusal namesEarlier (fieldsOf f) → acceptRefusal b ≡ fileRefusal f
     unfolding fileRefusalWith
     rows-last a b e r s =
         let none : blocksRefusal f .number ≡ 0 = number-none (blocksRefusal f) (sym r ∙ ap acceptRefusal e) in
         sym (
-        list-next (question 1 (lengthRight f)) (blocksRefusal f ∷ rowsRefusal namesEarlier (fieldsOf f) ∷ []) (question-of 1 (lengthRight f) right)
+        list-yes 1 (lengthRight f) (blocksRefusal f ∷ rowsRefusal namesEarlier (fieldsOf f) ∷ []) right
         ∙ list-next (blocksRefusal f) (rowsRefusal namesEarlier (fieldsOf f) ∷ []) none
         ∙ ap (λ (q : Refusal). firstRefusal (q ∷ [])) (sym s)
         ∙ last b
@@ -115,3 +115,10 @@ module _ (file : List ℕ) (a : Acceptance) (checked : acceptRefusal a ≡ fileR
 
   pub refused-is : (x : FileRefusal) → a ≡ Refused x → refusalIn x ≡ fileRefusal file
   refused-is x e = sym (ap acceptRefusal e) ∙ checked
+
+  -- In a list of questions that begins with those of the file.
+  pub file-passes : (qs : List Refusal) → a ≡ Accepted → firstRefusal (fileRefusal file ∷ qs) ≡ firstRefusal qs
+  file-passes qs e = list-next (fileRefusal file) qs (number-none (fileRefusal file) (accepted-none e))
+
+  pub file-stops : (qs : List Refusal) (x : FileRefusal) → a ≡ Refused x → firstRefusal (fileRefusal file ∷ qs) ≡ refusalIn x
+  file-stops qs x e = let q = refused-is x e in list-stop (fileRefusal file) qs (omega (arith, number-positive x, ap (λ (y : Refusal). y .number) q)) ∙ sym q

@@ -4,22 +4,20 @@ use Prim.Native.Nat.{ℕ, _+_, _-_, _*_, _≤_}
 use mathlib.Core.Path.{_≡_}
 use mathlib.Core.Bool.{Bool, true, cond, not, _&&_, _||_}
 use mathlib.Core.List.{List}
-use lib.ListN.{length}
 use lib.Dec.{eqb, leb}
 use Rattle.memory.specs.Lists.{allBelow}
 use Rattle.memory.specs.Fields.{byteAt}
-use Rattle.netlist.specs.Limits.{mostBlocks, mostRows}
+use Rattle.netlist.specs.Limits.{mostRows}
 use Rattle.netlist.specs.Rows.{Row, RowFields, decodeRow, rowAt, hasName, isOutput}
 use Rattle.netlist.specs.FileFormat.{blockCount, rowCount}
 use Rattle.questions.specs.Questions.{fieldsRight, namesEarlier, literalsRight}
+use Rattle.questions.proofs.PlainWords.{LengthWords}
 use Rattle.accept.specs.declared.RowTests.{RowTests}
 use Rattle.accept.specs.Marks.{slotOf}
 
 -- The file is whole blocks, 1 to the most, and its last one counts 1 to 63 rows.
 pub record BlocksRight (f : List ℕ) : Type 0 where
-  pub whole : length f ≡ 512 * blockCount f
-  pub some : 1 ≤ blockCount f
-  pub few : blockCount f ≤ mostBlocks
+  pub size : LengthWords f
   pub last-some : 1 ≤ byteAt f (512 * (blockCount f - 1) + 2)
   pub last-most : byteAt f (512 * (blockCount f - 1) + 2) ≤ 63
 

@@ -1,4 +1,4 @@
--- What the writer leaves, step by step: a sum, a block around its rows, the blocks so far, the file; and the file read back.
+-- What the writer leaves, step by step: a sum, a block around its rows, the blocks so far, the file.
 -- Assumes nothing.
 use Prim.Native.Nat.{ℕ, _+_, _-_, _*_, _/_, _%_, _^_, _<_, _≤_, min}
 use mathlib.Core.Path.{_≡_, refl, sym, ap, _∙_}
@@ -11,10 +11,9 @@ use lib.Seq.{sets, sets-eq, ext-getD, getD-take, getD-drop, take-append-add, tak
 use Rattle.memory.specs.Lists.{joinBelow}
 use Rattle.memory.specs.Fields.{byteAt, u32At, u32Bytes}
 use Rattle.memory.proofs.ListLaws.{join-length, join-at}
-use Rattle.netlist.specs.Rows.{Row, encodeRow, rowAt}
-use Rattle.netlist.specs.FileFormat.{lastMark, wordSum, rightSum, blockAt, rowOffset, netlistOf, rowBytes, blockBody, checkWord, blockBytes, blockRows, blocksFor, fileOf}
-use Rattle.netlist.proofs.RowLaws.{EachRow}
-use Rattle.netlist.proofs.FileLaws.{FieldsFit, sum-suc, sum-cong, block-at, block-back, part-length, part-at, file-length, read-back, body-length}
+use Rattle.netlist.specs.Rows.{Row, rowAt}
+use Rattle.netlist.specs.FileFormat.{lastMark, wordSum, rightSum, blockAt, rowOffset, rowBytes, blockBody, checkWord, blockBytes, blockRows, blocksFor, fileOf}
+use Rattle.netlist.proofs.FileLaws.{sum-suc, sum-cong, block-at, block-back, part-length, part-at, file-length, body-length}
 use Rattle.blockfile.specs.RowsStand.{RowsStand}
 
 -- ---- sums
@@ -134,7 +133,3 @@ file-written f₀ g r n B h l same before e rs count stand =
     let w : take a F ≡ F = take-all a F (omega arith) in
     let t : take a g ≡ F = ap (take a) (rw q at (before rs count stand)) ∙ rw w (take-at F (drop a f₀) a m) in
     e ∙ rw (t, same)
-
--- What `write_file` leaves, read: the rows, if their fields fit.
-pub written-reads-back : (rs : List Row) (r : List ℕ) (n : ℕ) → EachRow (λ w. FieldsFit (encodeRow w)) rs → r ≡ fileOf rs ++ replicate n 0 → netlistOf (take (512 * blocksFor (length rs)) r) ≡ rs
-written-reads-back rs r n fits e = ap netlistOf (ap (take (512 * blocksFor (length rs))) e ∙ take-at (fileOf rs) (replicate n 0) (512 * blocksFor (length rs)) (file-length rs)) ∙ read-back rs fits

@@ -1,6 +1,6 @@
 -- An accepted file, read and written afresh, is the same bytes; and the round trips together.
 -- Assumes nothing.
-use Prim.Native.Nat.{ℕ, zero, suc, _+_, _-_, _*_, _<_, _≤_, _/_, _%_, _^_}
+use Prim.Native.Nat.{ℕ, zero, suc, _+_, _-_, _*_, _<_, _/_, _%_, _^_}
 use mathlib.Core.Path.{_≡_, sym, ap, _∙_, subst}
 use mathlib.Core.List.{List, map}
 use native.Mathlib.Omega.{arith}
@@ -9,12 +9,11 @@ use lib.ListN.{length, length-map, List·getD-map, List·getD-eq-default}
 use lib.Seq.{ext-getD}
 use Rattle.memory.specs.Fields.{IsBytes, byteAt, u32At, u32Bytes}
 use Rattle.memory.proofs.FieldLaws.{u32-small, u32-write}
-use Rattle.netlist.specs.Limits.{mostRows}
 use Rattle.netlist.specs.Rows.{Row, RowFields, encodeRow, decodeRow, constant, rowAt}
-use Rattle.netlist.specs.FileFormat.{wordSum, rightSum, blockCount, blockAt, blockRows, blocksFor, blockBytes, rowOffset, readFields, fieldBytes, rowBytes, fieldsOf, fieldsAt, netlistOf, fileOf}
+use Rattle.netlist.specs.FileFormat.{wordSum, rightSum, blockCount, blockAt, blockRows, blockBytes, rowOffset, readFields, fieldBytes, rowBytes, fieldsOf, fieldsAt, netlistOf, fileOf}
 use Rattle.netlist.proofs.FileLaws.{sum-suc, sum-cong, block-at, block-size, fields-write, block-head, block-row, block-unused, block-check, check-word, check-small, block-sum, part-small, part-length, part-at, file-length, file-at, read-length, read-at, file-labels}
 use Rattle.questions.specs.Questions.{namesEarlier, fileRefusal}
-use Rattle.questions.proofs.AcceptedFiles.{RowsRight, rows-fields, rows-yes, FileRight, file-right, file-rows}
+use Rattle.questions.proofs.AcceptedFiles.{RowsRight, rows-fields, rows-yes, FileRight, file-right, file-rows, last-count, rows-of-file}
 use Rattle.guarantees.specs.RoundTrips.{RoundTrips}
 use Rattle.guarantees.proofs.WriteThenRead.{writable-read, writable-accepted, writable-bytes}
 
@@ -36,37 +35,18 @@ module _ (file : List ℕ) (ok : fileRefusal file .number ≡ 0) where
   right : FileRight namesEarlier file
   right = file-right namesEarlier file ok
 
-  -- A byte of block B, in the file.
-  in-file : (B o : ℕ) → o < 512 → byteAt (blockAt file B) o ≡ byteAt file (512 * B + o)
-  in-file = block-at file
-
-  last-count : (1 ≤ byteAt file (512 * (K - 1) + 2)) × (byteAt file (512 * (K - 1) + 2) ≤ 63)
-  last-count =
-      let s = right .size .some-blocks in
-      let c = right .blocks (K - 1) (omega arith) .count-last (omega arith) in
-      let e = in-file (K - 1) 2 (omega arith) in
-      (omega arith, omega arith)
-
-  -- How many rows an accepted file has, and they take its blocks.
-  pub rows-of-file : (1 ≤ length (netlistOf file)) × (length (netlistOf file) ≤ mostRows) × (blocksFor (length (netlistOf file)) ≡ blockCount file)
-  rows-of-file =
-      let s = right .size in
-      let c = last-count in
-      let n = read-length file in
-      (omega arith, omega arith, omega arith)
-
   part-is : (B : ℕ) → B < K → length (blockRows rows B) ≡ byteAt (blockAt file B) 2
   part-is B h = part-length rows B ∙ elim (decLt (suc B) K) [
     | yes l ↦
         (let c = right .blocks B h .count-other (λ e. omega arith) in
         let n = read-length file in
-        let t = last-count in
+        let t = last-count file (right .size) (right .blocks) in
         omega arith)
     | no l ↦
         (let e : K - 1 ≡ B = omega arith in
         let n = read-length file in
         let t = right .blocks B h .count-last (omega arith) in
-        let w : byteAt file (512 * (K - 1) + 2) ≡ byteAt (blockAt file B) 2 = ap (λ (x : ℕ). byteAt file (512 * x + 2)) e ∙ sym (in-file B 2 (omega arith)) in
+        let w : byteAt file (512 * (K - 1) + 2) ≡ byteAt (blockAt file B) 2 = ap (λ (x : ℕ). byteAt file (512 * x + 2)) e ∙ sym (block-at file B 2 (omega arith)) in
         omega arith)
   ]
 
@@ -104,7 +84,7 @@ module _ (file : List ℕ) (ok : fileRefusal file .number ≡ 0) where
           ∙ ap (λ (w : RowFields). byteAt (fieldBytes w) d) (row-same (63 * B + j) (omega (arith, part-length rows B)))
           ∙ fields-write file bytes (63 * B + j) d m
           ∙ ap (byteAt file) e
-          ∙ sym (in-file B (4 + (8 * j + d)) (omega arith))
+          ∙ sym (block-at file B (4 + (8 * j + d)) (omega arith))
 
       unused-byte : (i : ℕ) → i < 504 - 8 * length part → Same (4 + (8 * length part + i))
       unused-byte i l =
@@ -126,7 +106,7 @@ module _ (file : List ℕ) (ok : fileRefusal file .number ≡ 0) where
 
       stored-bytes : IsBytes stored
       stored-bytes o = elim (decLt o 512) [
-        | yes l ↦ rw (in-file B o l) (bytes (512 * B + o))
+        | yes l ↦ rw (block-at file B o l) (bytes (512 * B + o))
         | no l ↦ (let e : byteAt stored o ≡ 0 = List·getD-eq-default stored 0 {n = o} (omega (arith, stored-length)) in omega (arith, e))
       ]
 
@@ -156,7 +136,7 @@ module _ (file : List ℕ) (ok : fileRefusal file .number ≡ 0) where
 
     same-bytes : fileOf (netlistOf file) ≡ file
     same-bytes =
-        let k = rows-of-file .2 in
+        let k = rows-of-file namesEarlier file right .2 in
         let s = right .size .whole in
         let n : length (fileOf rows) ≡ length file = file-length rows ∙ ap (λ (x : ℕ). 512 * x) k ∙ sym s in
         ext-getD 0 (fileOf rows) file n (λ x l.
@@ -166,7 +146,7 @@ module _ (file : List ℕ) (ok : fileRefusal file .number ≡ 0) where
         ∙ file-at rows (x / 512) (x % 512) (omega arith) (omega arith)
         ∙ ap (λ (y : ℕ). byteAt (blockBytes y (x / 512) (blockRows rows (x / 512))) (x % 512)) k
         ∙ block-byte (x / 512) b (x % 512) (omega arith)
-        ∙ in-file (x / 512) (x % 512) (omega arith)
+        ∙ block-at file (x / 512) (x % 512) (omega arith)
         ∙ ap (byteAt file) (sym e))
 
 pub write-read : (file : List ℕ) → IsBytes file → fileRefusal file .number ≡ 0 → fileOf (netlistOf file) ≡ file
@@ -180,5 +160,5 @@ round-trips = record {
   read-then-write = λ file bytes q. write-read file bytes (rw q);
   read-is-writable = λ file bytes q.
       let ok : fileRefusal file .number ≡ 0 = rw q in
-      record { few = rows-of-file file ok .1; pass = rw (fields-same file ok) (rows-yes namesEarlier (fieldsOf file) (file-rows namesEarlier file (right file ok))); labels = file-labels file bytes };
+      record { few = rows-of-file namesEarlier file (right file ok) .1; pass = rw (fields-same file ok) (rows-yes namesEarlier (fieldsOf file) (file-rows namesEarlier file (right file ok))); labels = file-labels file bytes };
 }

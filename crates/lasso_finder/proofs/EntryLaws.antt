@@ -126,9 +126,6 @@ module _ {f : List ℕ} {n : ℕ} (R : AnalysisReady f n) {w w′ : List ℕ} {i
   inside : i < length (netlistOf f)
   inside = let c = R .file .count in omega arith
 
-  inside-next : i + 1 ≤ length (netlistOf f)
-  inside-next = let h = inside in omega arith
-
   none-more : byteAt w (knownPlace i) ≡ 0 → EntryPart (netlistOf f) w w′ (i + 1) e
   none-more z = record {
     entries = E .entries ∙ sym (from-none (netlistOf f) w i z);

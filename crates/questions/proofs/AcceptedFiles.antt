@@ -1,7 +1,7 @@
 -- What an operation that refuses nothing was given, and that it refuses nothing where it is given that: Check, Fold, Run and Show.
 -- Of the rows, in plain words: CheckedRows (questions 6 to 10), AcceptedRows (6 to 13).
 -- Assumes nothing.
-use Prim.Native.Nat.{ℕ, _<_, _≤_, _/_}
+use Prim.Native.Nat.{ℕ, _+_, _-_, _*_, _<_, _≤_, _/_}
 use mathlib.Core.Path.{_≡_, refl, sym, ap, _∙_, subst}
 use mathlib.Core.Logic.{_↔_}
 use mathlib.Core.Bool.{Bool, true, false, _&&_, false≢true}
@@ -13,12 +13,14 @@ use lib.ListN.{length, length-map, List·getD-map}
 use lib.Dec.{ltb, leb}
 use borrow.Author.Tests.{ltb-true, leb-true, lt-ltb, le-leb}
 use Rattle.memory.specs.Lists.{countIf}
+use Rattle.memory.specs.Fields.{byteAt}
 use Rattle.memory.proofs.ListLaws.{count-some}
-use Rattle.netlist.specs.Limits.{mostPhases, mostOriginalRows, mostOriginalRegisters, mostSteps}
+use Rattle.netlist.specs.Limits.{mostPhases, mostOriginalRows, mostOriginalRegisters, mostSteps, mostRows}
 use Rattle.netlist.specs.Rows.{Row, constant, input, register, andGate, xorGate, muxGate, output, RowFields, encodeRow, rowFromFields, decodeRow, rowAt, phaseOf, hasName, isRegister, isOutput}
-use Rattle.netlist.specs.FileFormat.{blockCount, blockAt, fieldsOf, fieldsAt, netlistOf}
+use Rattle.netlist.specs.FileFormat.{blockCount, blockAt, fieldsOf, fieldsAt, netlistOf, blocksFor}
 use Rattle.netlist.proofs.RowLaws.{SameName, output-is, named-alike}
 use Rattle.netlist.proofs.WellFormed.{OperandsBelow, Ordered, NextBelow, ResetIn, NamesNode, OnLiterals, NamesUnique, AcceptedRows}
+use Rattle.netlist.proofs.FileLaws.{block-at, read-length}
 use Rattle.lasso.specs.LassoSearch.{Lasso, findLasso}
 use Rattle.questions.specs.Questions.{Refusal, noRefusal, question, itemQuestions, lengthRight, sumRight, headRight, countRight, unusedRight, blockQuestions, kindRight, fieldsRight, labelIsNew, namesEarlier, literalsRight, rowQuestions, rowsRefusal, fileRefusalWith, fileRefusal, phaseQuestion, originalRefusal, foldMemoryRight, hasLasso, foldRefusal, valueListsRight, allBinary, runMemoryRight, runRefusal, showRefusal}
 use Rattle.questions.proofs.QuestionLaws.{all-none, all-yes, _then_, number-none, question-none, question-of, items-none, items-yes, passed, passed-of}
@@ -113,7 +115,23 @@ pub record FileRight (operand : Operand) (f : List ℕ) : Type 0 where
   pub rows : EachRowRight operand (fieldsOf f)
   pub some-output : 0 < countIf isOutput (netlistOf f)
 
+-- The last block has 1 to 63 rows.
+pub last-count : (f : List ℕ) → LengthWords f → ((B : ℕ) → B < blockCount f → BlockWords (blockCount f) B (blockAt f B)) → (1 ≤ byteAt f (512 * (blockCount f - 1) + 2)) × (byteAt f (512 * (blockCount f - 1) + 2) ≤ 63)
+last-count f w blocks =
+    let s = w .some-blocks in
+    let c = blocks (blockCount f - 1) (omega arith) .count-last (omega arith) in
+    let e = block-at f (blockCount f - 1) 2 (omega arith) in
+    (omega arith, omega arith)
+
 module _ (operand : Operand) (f : List ℕ) where
+  -- How many rows the file has, and they take its blocks.
+  pub rows-of-file : FileRight operand f → (1 ≤ length (netlistOf f)) × (length (netlistOf f) ≤ mostRows) × (blocksFor (length (netlistOf f)) ≡ blockCount f)
+  rows-of-file F =
+      let s = F .size in
+      let c = last-count f (F .size) (F .blocks) in
+      let n = read-length f in
+      (omega arith, omega arith, omega arith)
+
   abbrev blockAsked : ℕ → ℕ
   blockAsked B = blockQuestions (blockCount f) B (blockAt f B)
 

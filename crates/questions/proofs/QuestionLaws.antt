@@ -68,6 +68,13 @@ question-no n t e = rw e
 pub question-of : (n : ℕ) (t : Bool) → t ≡ true → question n t .number ≡ 0
 question-of n t e = number-none (question n t) (question-yes n t e)
 
+-- At the head of a list.
+pub list-yes : (n : ℕ) (t : Bool) (qs : List Refusal) → t ≡ true → firstRefusal (question n t ∷ qs) ≡ firstRefusal qs
+list-yes n t qs e = list-next (question n t) qs (question-of n t e)
+
+pub list-no : (n : ℕ) (t : Bool) (qs : List Refusal) → t ≡ false → firstRefusal (question (suc n) t ∷ qs) ≡ record { number = suc n; place = 0 }
+list-no n t qs e = ap (λ (q : Refusal). firstRefusal (q ∷ qs)) (question-no (suc n) t e)
+
 -- ---- questions asked of items in turn
 
 module _ (n : ℕ) (f : ℕ → ℕ) where

@@ -1,6 +1,6 @@
 -- Run's questions by the counts, in order.
 -- Assumes nothing.
-use Prim.Native.Nat.{ℕ, suc, _+_, _*_, _<_, _≤_}
+use Prim.Native.Nat.{ℕ, _+_, _*_, _<_, _≤_}
 use mathlib.Core.Path.{_≡_, refl, sym, ap, _∙_}
 use mathlib.Core.Bool.{Bool, true, false, not, _&&_}
 use mathlib.Core.List.{List, [], _∷_}
@@ -16,14 +16,14 @@ use Rattle.netlist.specs.Limits.{mostRows, mostSteps, runWorkBytes}
 use Rattle.netlist.specs.Rows.{Row}
 use Rattle.netlist.specs.FileFormat.{netlistOf}
 use Rattle.questions.specs.Questions.{Refusal, firstRefusal, question, fileRefusal, Counts, countsOf, valueListsRight, allBinary, runMemoryRight, runRefusal}
-use Rattle.questions.proofs.QuestionLaws.{list-next, number-none, list-stop}
+use Rattle.questions.proofs.QuestionLaws.{list-yes, list-no}
 use Rattle.blockfile.specs.CountCode.{EachAtMost}
 use Rattle.blockfile.proofs.CountLaws.{counts-small, most-more, counts-all}
 use Rattle.accept.specs.Refusals.{acceptRefusal}
 use Rattle.accept.specs.declared.FileRefusal.{FileRefusal}
 use Rattle.accept.specs.declared.Acceptance.{Acceptance}
 use Rattle.accept.specs.declared.Acceptance.the-variants.{Accepted, Refused}
-use Rattle.accept.proofs.RefusalLaws.{number-positive, accepted-none, refused-is}
+use Rattle.accept.proofs.RefusalLaws.{file-passes, file-stops}
 use Rattle.run_core.specs.RunAnswers.{runRefusalIn}
 use Rattle.run_core.specs.RunPlans.{stepsRefusal, StepsPlanned, RunPlanned}
 use Rattle.run_core.specs.declared.RunRefusal.{RunRefusal}
@@ -46,14 +46,6 @@ module _ (rows : List Row) (c : Counts) (e : c ≡ countsOf rows) (T : ℕ) (r :
 
   pub memory-by : (result work : ℕ) → r ≡ leb (T * c .outputs) result && leb runWorkBytes work → r ≡ runMemoryRight rows T result work
   memory-by result work h = h ∙ rw e refl
-
--- ---- questions asked once, in a list
-
-pub first-no : (n : ℕ) (t : Bool) (qs : List Refusal) → t ≡ false → firstRefusal (question (suc n) t ∷ qs) ≡ record { number = suc n; place = 0 }
-first-no n t qs e = rw e refl
-
-pub first-yes : (n : ℕ) (t : Bool) (qs : List Refusal) → t ≡ true → firstRefusal (question n t ∷ qs) ≡ firstRefusal qs
-first-yes n t qs e = rw e refl
 
 -- ---- plans
 
@@ -95,37 +87,37 @@ module _ (n : ℕ) (c : Counts) (T : ℕ) (choices inputs : List ℕ) (result wo
 
   pub stops-17 : mostSteps < T → Planned (Stop Steps)
   unfolding stepsRefusal
-  stops-17 h = stopped Steps (λ rows e. sym (first-no 16 (leb T mostSteps) (from18 rows) (lt-leb T mostSteps h)))
+  stops-17 h = stopped Steps (λ rows e. sym (list-no 16 (leb T mostSteps) (from18 rows) (lt-leb T mostSteps h)))
 
   module _ (few : T ≤ mostSteps) (lists : Bool) (lists-told : ListsTold lists) where
     after-17 : (rows : List Row) → asked rows ≡ firstRefusal (from18 rows)
     unfolding stepsRefusal
-    after-17 rows = first-yes 17 (leb T mostSteps) (from18 rows) (le-leb T mostSteps few)
+    after-17 rows = list-yes 17 (leb T mostSteps) (from18 rows) (le-leb T mostSteps few)
 
     pub stops-18 : not lists ≡ true → Planned (Stop Lists)
-    stops-18 h = stopped Lists (λ rows e. sym (after-17 rows ∙ first-no 17 (valueListsRight rows T choices inputs) (from19 rows) (sym (lists-told rows e) ∙ not-true lists h)))
+    stops-18 h = stopped Lists (λ rows e. sym (after-17 rows ∙ list-no 17 (valueListsRight rows T choices inputs) (from19 rows) (sym (lists-told rows e) ∙ not-true lists h)))
 
     module _ (lists-right : not lists ≡ false) (values choices-told inputs-told : Bool) (values-told : values ≡ choices-told && inputs-told) (choices-are : choices-told ≡ allBinary choices) (inputs-are : inputs-told ≡ allBinary inputs) where
       values-are : values ≡ allBinary choices && allBinary inputs
       values-are = values-told ∙ rw (choices-are, inputs-are) refl
 
       after-18 : (rows : List Row) → c ≡ countsOf rows → asked rows ≡ firstRefusal (from19 rows)
-      after-18 rows e = after-17 rows ∙ first-yes 18 (valueListsRight rows T choices inputs) (from19 rows) (sym (lists-told rows e) ∙ not-false lists lists-right)
+      after-18 rows e = after-17 rows ∙ list-yes 18 (valueListsRight rows T choices inputs) (from19 rows) (sym (lists-told rows e) ∙ not-false lists lists-right)
 
       pub stops-19 : not values ≡ true → Planned (Stop Value)
-      stops-19 h = stopped Value (λ rows e. sym (after-18 rows e ∙ first-no 18 (allBinary choices && allBinary inputs) (from20 rows) (sym values-are ∙ not-true values h)))
+      stops-19 h = stopped Value (λ rows e. sym (after-18 rows e ∙ list-no 18 (allBinary choices && allBinary inputs) (from20 rows) (sym values-are ∙ not-true values h)))
 
       module _ (values-right : not values ≡ false) (memory : Bool) (memory-told : MemoryTold memory) where
         after-19 : (rows : List Row) → c ≡ countsOf rows → asked rows ≡ firstRefusal (from20 rows)
-        after-19 rows e = after-18 rows e ∙ first-yes 19 (allBinary choices && allBinary inputs) (from20 rows) (sym values-are ∙ not-false values values-right)
+        after-19 rows e = after-18 rows e ∙ list-yes 19 (allBinary choices && allBinary inputs) (from20 rows) (sym values-are ∙ not-false values values-right)
 
         pub stops-20 : not memory ≡ true → Planned (Stop Memory)
-        stops-20 h = stopped Memory (λ rows e. sym (after-19 rows e ∙ first-no 19 (runMemoryRight rows T result work) [] (sym (memory-told rows e) ∙ not-true memory h)))
+        stops-20 h = stopped Memory (λ rows e. sym (after-19 rows e ∙ list-no 19 (runMemoryRight rows T result work) [] (sym (memory-told rows e) ∙ not-true memory h)))
 
         pub goes : not memory ≡ false → Planned (Go n (c .nodes) (c .inputs))
         goes h =
             record {
-              refusal = λ rows e. sym (after-19 rows e ∙ first-yes 20 (runMemoryRight rows T result work) [] (sym (memory-told rows e) ∙ not-false memory h));
+              refusal = λ rows e. sym (after-19 rows e ∙ list-yes 20 (runMemoryRight rows T result work) [] (sym (memory-told rows e) ∙ not-false memory h));
               go = λ rows nodes ins e. go-parts e;
             }
           where
@@ -157,15 +149,14 @@ module _ (file : List ℕ) (T : ℕ) (choices inputs : List ℕ) (result work : 
   unfolding runRefusal stepsRefusal
   planned-by n c plan e q k P =
       record {
-        refusal = P .refusal (netlistOf file) k ∙ sym (list-next (fileRefusal file) later (number-none (fileRefusal file) (accepted-none file a checked e)));
+        refusal = P .refusal (netlistOf file) k ∙ sym (file-passes file a checked later e);
         go = λ rows nodes ins g. (P .go rows nodes ins g .0 ∙ q, (P .go rows nodes ins g .1 .0 ∙ ap (λ (x : Counts). x .nodes) k, P .go rows nodes ins g .1 .1 ∙ ap (λ (x : Counts). x .inputs) k));
       }
 
   pub planned-refused : (r : FileRefusal) → a ≡ Refused r → RunPlanned file T choices inputs result work (Stop (File r))
   unfolding runRefusal
   planned-refused r e =
-      let q = refused-is file a checked r e in
       record {
-        refusal = q ∙ sym (list-stop (fileRefusal file) later (omega (arith, number-positive r, ap (λ (x : Refusal). x .number) q)));
+        refusal = sym (file-stops file a checked later r e);
         go = λ rows nodes ins g. absurd (stop-not-go (File r) g);
       }
