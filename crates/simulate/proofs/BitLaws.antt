@@ -9,7 +9,7 @@ use lib.ListN.{set, List·getD-map}
 use lib.Seq.{sets}
 use Rattle.memory.specs.Fields.{byteAt}
 use Rattle.netlist.specs.Simulation.{boolLogic, boolXor, complementIf, literalValue, valueAt}
-use Rattle.simulate.specs.Values.{IsBinary, bit, bitAt, bitByte, bitBytes}
+use Rattle.simulate.specs.Values.{IsBinary, bit, bitAt, bitFrom, bitByte, bitBytes}
 
 -- ---- values and bytes
 
@@ -38,7 +38,7 @@ bits-at bs i = ap bit (bytes-at bs i) ∙ bit-byte (valueAt boolLogic bs i)
 pub binary-bytes : (bs : List Bool) → IsBinary (bitBytes bs)
 binary-bytes bs i = rw (bytes-at bs i) (byte-most (valueAt boolLogic bs i))
 
-binary-set : (s : List ℕ) (i x : ℕ) → IsBinary s → x ≤ 1 → IsBinary (set s i x)
+pub binary-set : (s : List ℕ) (i x : ℕ) → IsBinary s → x ≤ 1 → IsBinary (set s i x)
 binary-set [] i x b h j = b j
 binary-set (y ∷ s) zero x b h zero = h
 binary-set (y ∷ s) zero x b h (suc j) = b (suc j)
@@ -60,8 +60,9 @@ literal-bit (suc zero) l (suc zero) h e = omega arith
 literal-bit (suc zero) l (suc (suc m)) h e = absurd (omega arith)
 literal-bit (suc (suc x)) l m h e = absurd (omega arith)
 
-pub literal-sum : (w : List ℕ) (l : ℕ) → IsBinary w → ((byteAt w (l / 2) + l) % 2 ≡ bitByte (literalValue boolLogic (bitAt w) l)) × ((byteAt w (l / 2) + l) % 2 ≤ 1)
-literal-sum w l b = (literal-bit (byteAt w (l / 2)) l (l % 2) (b (l / 2)) refl, omega arith)
+-- The literal l among the values from o on.
+pub literal-sum : (w : List ℕ) (o l : ℕ) → IsBinary w → ((byteAt w (o + l / 2) + l) % 2 ≡ bitByte (literalValue boolLogic (bitFrom w o) l)) × ((byteAt w (o + l / 2) + l) % 2 ≤ 1)
+literal-sum w o l b = (literal-bit (byteAt w (o + l / 2)) l (l % 2) (b (o + l / 2)) refl, omega arith)
 
 one-of : (x : ℕ) → x ≤ 1 → (x ≡ 0 → ⊥) → x ≡ 1
 one-of zero h n = absurd (n refl)

@@ -1,14 +1,15 @@
 -- The passes over the rows: what each asks of a row and leaves after one row more.
 -- Assumes nothing.
-use Prim.Native.Nat.{ℕ, zero, suc, _+_, _<_, _≤_, _/_}
+use Prim.Native.Nat.{ℕ, zero, suc, _+_, _-_, _<_, _≤_, _/_}
 use mathlib.Core.Path.{_≡_, refl, sym, ap, _∙_}
 use mathlib.Core.Bool.{Bool, true, false, cond}
+use mathlib.Core.Logic.{inl, inr, ⊎-elim}
 use mathlib.Core.List.{List, [], _∷_, _++_, map, map-append}
 use native.Mathlib.Omega.{arith}
 use native.Mathlib.Numerals.{add-one}
 use lib.Dec.{eqb}
-use lib.ListN.{length, getD, set, take, length-map, List·getD-map}
-use lib.Seq.{sets, length-sets, length-take-le, take-all}
+use lib.ListN.{length, getD, set, take, length-map, length-set, List·getD-map}
+use lib.Seq.{sets, length-sets, take-all}
 use borrow.Author.Tests.{eq-eqb}
 use Rattle.memory.specs.Lists.{countIf}
 use Rattle.memory.specs.Fields.{byteAt}
@@ -20,9 +21,9 @@ use Rattle.netlist.specs.RunLayout.{placeAmong}
 use Rattle.netlist.proofs.WellFormed.{NextBelow}
 use Rattle.netlist.proofs.SimulationLaws.{literal-cong, row-cong, values-length}
 use Rattle.blockfile.proofs.CountLaws.{count-next, count-some-le, count-place}
-use Rattle.simulate.specs.Values.{IsBinary, bit, bitAt, bitByte, bitBytes, stateIn, stepInputs, resetChoices, valuesFrom}
-use Rattle.simulate.specs.Steps.{RowReady, NetlistReady, WorkReady}
-use Rattle.simulate.proofs.BitLaws.{bytes-at, bits-at, binary-bytes, binary-sets}
+use Rattle.simulate.specs.Values.{IsBinary, bit, bitAt, bitFrom, bitByte, bitBytes, heldIn, stateFrom, stepInputs, resetChoices, valuesBefore, valuesFrom}
+use Rattle.simulate.specs.Steps.{RowReady, NetlistReady, WorkReady, TwoHalves}
+use Rattle.simulate.proofs.BitLaws.{bytes-at, bits-at, binary-bytes, binary-set, binary-sets}
 use Rattle.simulate.proofs.WriteLaws.{write-before, write-inside, write-after, put-last, put-next}
 use Rattle.simulate.proofs.PlaceLaws.{input-place, register-place}
 use Rattle.simulate.proofs.RowValueLaws.{input-is}
@@ -69,20 +70,19 @@ choice-cong u u′ (output _ _ _) e = refl
 
 -- ---- memory
 
--- The values of the first i rows in the step that begins with the state in `work`.
-abbrev pub valuesBefore : List Row → List ℕ → ℕ → List ℕ → ℕ → ℕ → List Bool
-valuesBefore rows inputs base work half i = valuesUpTo boolLogic rows (stateIn work half (length rows)) (stepInputs rows inputs base) i
-
 -- Written with values, memory is as ready as it was.
 pub work-written : (n half : ℕ) (v w : List ℕ) (o : ℕ) (xs : List ℕ) → WorkReady n half v → IsBinary xs → w ≡ sets v o xs → WorkReady n half w
 work-written n half v w o xs W b e = rw e (record { rows-fit = W .rows-fit; halves-fit = omega (arith, W .halves-fit, length-sets v o xs); binary = binary-sets v o xs (W .binary) b })
 
-binary-take : (bs : List Bool) (i : ℕ) → IsBinary (take i (bitBytes bs))
-binary-take [] zero j = omega arith
-binary-take [] (suc i) j = omega arith
-binary-take (b ∷ bs) zero j = omega arith
-binary-take (b ∷ bs) (suc i) zero = binary-bytes (b ∷ bs) 0
-binary-take (b ∷ bs) (suc i) (suc j) = binary-take bs i j
+-- One value more, or values, written: the halves are as ready as they were.
+pub halves-set : (n current previous : ℕ) (v : List ℕ) (i x : ℕ) → TwoHalves n current previous v → x ≤ 1 → TwoHalves n current previous (set v i x)
+halves-set n current previous v i x H h = record { current-fits = omega (arith, H .current-fits, length-set v i x); previous-fits = omega (arith, H .previous-fits, length-set v i x); apart = H .apart; binary = binary-set v i x (H .binary) h }
+
+pub halves-written : (n current previous : ℕ) (v w : List ℕ) (o : ℕ) (xs : List ℕ) → TwoHalves n current previous v → IsBinary xs → w ≡ sets v o xs → TwoHalves n current previous w
+halves-written n current previous v w o xs H b e = rw e (record { current-fits = omega (arith, H .current-fits, length-sets v o xs); previous-fits = omega (arith, H .previous-fits, length-sets v o xs); apart = H .apart; binary = binary-sets v o xs (H .binary) b })
+
+pub halves-turned : (n current previous : ℕ) (w : List ℕ) → TwoHalves n current previous w → TwoHalves n previous current w
+halves-turned n current previous w H = record { current-fits = H .previous-fits; previous-fits = H .current-fits; apart = ⊎-elim inr inl (H .apart); binary = H .binary }
 
 module _ (f : List ℕ) (n : ℕ) (N : NetlistReady f n) where
   in-rows : (i : ℕ) → i < n → i < length (netlistOf f)
@@ -103,71 +103,89 @@ module _ (f : List ℕ) (n : ℕ) (N : NetlistReady f n) where
     kind-input : isInput (rowAt (netlistOf f) i) ≡ eqb (byteAt f place) 1
     kind-input = input-is f i (row-ready i h) place ep
 
-    module _ (inputs : List ℕ) (k : ℕ) (ek : k ≡ base + placeAmong isInput (netlistOf f) i) (fit : base + countIf isInput (netlistOf f) ≤ length inputs) where
-      pub input-there : byteAt f place ≡ 1 → k < length inputs
+    -- k inputs stand before row i.
+    module _ (inputs : List ℕ) (k : ℕ) (ek : k ≡ placeAmong isInput (netlistOf f) i) (fit : base + countIf isInput (netlistOf f) ≤ length inputs) where
+      pub input-there : byteAt f place ≡ 1 → base + k < length inputs
       input-there e = omega (arith, count-place isInput constant (netlistOf f) i (in-rows i h) (kind-input ∙ eq-eqb (byteAt f place) 1 e))
 
-      pub input-next : (o : ℕ) → o ≡ cond (eqb (byteAt f place) 1) 1 0 → k + o ≡ base + placeAmong isInput (netlistOf f) (i + 1)
+      pub input-next : (o : ℕ) → o ≡ cond (eqb (byteAt f place) 1) 1 0 → k + o ≡ placeAmong isInput (netlistOf f) (i + 1)
       input-next o eo =
           let q : o ≡ cond {A = ℕ} (isInput (rowAt (netlistOf f) i)) 1 0 = eo ∙ ap (λ (b : Bool). cond {A = ℕ} b 1 0) (sym kind-input) in
           omega (arith, count-next isInput constant (netlistOf f) i (in-rows i h))
 
-      pub input-fits : (o : ℕ) → o ≡ cond (eqb (byteAt f place) 1) 1 0 → k + o ≤ length inputs
+      pub input-fits : (o : ℕ) → o ≡ cond (eqb (byteAt f place) 1) 1 0 → base + (k + o) ≤ length inputs
       input-fits o eo = omega (arith, input-next o eo, count-some-le isInput constant (netlistOf f) (i + 1) .1)
 
-  module _ (inputs : List ℕ) (base half : ℕ) (v : List ℕ) (W : WorkReady n half v) where
-    abbrev values : ℕ → List Bool
-    values i = valuesBefore (netlistOf f) inputs base v half i
+  pub next-below : (o m i : ℕ) → o + n ≤ m → i < n → NextBelow (m - o) (rowAt (netlistOf f) i)
+  next-below o m i fits h = next-more (length (netlistOf f)) (m - o) (omega (arith, N .ready .count)) (rowAt (netlistOf f) i) (N .checked .nexts i (in-rows i h))
 
-    pub evaluate-none : v ≡ sets v 0 (bitBytes (values 0))
+  -- Memory v at the step's start.
+  module _ (inputs : List ℕ) (base current previous : ℕ) (initial : Bool) (v : List ℕ) where
+    abbrev values : ℕ → List Bool
+    values i = valuesBefore (netlistOf f) inputs base (stateFrom (netlistOf f) v previous initial) i
+
+    pub evaluate-none : v ≡ sets v current (bitBytes (values 0))
     unfolding valuesUpTo
     evaluate-none = refl
 
-    module _ (i : ℕ) (w : List ℕ) (h : i < n) (ew : w ≡ sets v 0 (bitBytes (values i))) where
+    -- Memory w after i rows.
+    module _ (i : ℕ) (w : List ℕ) (H : TwoHalves n current previous w) (ew : w ≡ sets v current (bitBytes (values i))) where
+      same-room : length w ≡ length v
+      same-room = ap length ew ∙ length-sets v current (bitBytes (values i))
+
       written : length (bitBytes (values i)) ≡ i
-      written = length-map (values i) bitByte ∙ values-length boolLogic (netlistOf f) (stateIn v half (length (netlistOf f))) (stepInputs (netlistOf f) inputs base) i
+      written = length-map (values i) bitByte ∙ values-length boolLogic (netlistOf f) (stateFrom (netlistOf f) v previous initial) (stepInputs (netlistOf f) inputs base) i
 
-      fits : 0 + length (bitBytes (values i)) ≤ length v
-      fits = omega (arith, written, W .rows-fit, W .halves-fit)
+      module _ (h : i < n) where
+        fits : current + length (bitBytes (values i)) ≤ length v
+        fits = omega (arith, written, same-room, H .current-fits)
 
-      pub evaluate-ready : WorkReady n half w
-      evaluate-ready = work-written n half v w 0 (bitBytes (values i)) W (binary-bytes (values i)) ew
+        -- The last step's values stay.
+        previous-is : (j : ℕ) → j < n → bitFrom w previous j ≡ bitFrom v previous j
+        previous-is j l =
+            ap bit (ap (λ (l : List ℕ). byteAt l (previous + j)) ew
+            ∙ ⊎-elim
+            (λ (a : current + n ≤ previous). write-after v (bitBytes (values i)) current fits (previous + j) (omega (arith, written)))
+            (λ (a : previous + n ≤ current). write-before v (bitBytes (values i)) current fits (previous + j) (omega arith))
+            (H .apart))
 
-      held-is : bitAt w (half + i) ≡ valueAt boolLogic (stateIn v half (length (netlistOf f))) i
-      held-is =
-          ap bit (ap (λ (l : List ℕ). byteAt l (half + i)) ew ∙ write-after v (bitBytes (values i)) 0 fits (half + i) (omega (arith, written, W .rows-fit)))
-          ∙ sym (tabulate-at (length (netlistOf f)) (λ j. bitAt v (half + j)) i false (in-rows i h))
+        held-is : heldIn w previous initial i (rowAt (netlistOf f) i) ≡ valueAt boolLogic (stateFrom (netlistOf f) v previous initial) i
+        held-is =
+            held-cong initial
+            ∙ sym (tabulate-at (length (netlistOf f)) (λ j. heldIn v previous initial j (rowAt (netlistOf f) j)) i false (in-rows i h))
+          where
+            held-cong : (t : Bool) → heldIn w previous t i (rowAt (netlistOf f) i) ≡ heldIn v previous t i (rowAt (netlistOf f) i)
+            held-cong true = previous-is i h
+            held-cong false = next-cong (bitFrom w previous) (bitFrom v previous) (length (netlistOf f)) (λ j l. previous-is j (omega (arith, N .ready .count))) (rowAt (netlistOf f) i) (N .checked .nexts i (in-rows i h))
 
-      value-is : (j : ℕ) → j < i → bitAt w j ≡ valueAt boolLogic (values i) j
-      value-is j l =
-          let z : 0 + j ≡ j = omega arith in
-          ap bit (ap (λ (l : List ℕ). byteAt l j) ew ∙ ap (byteAt (sets v 0 (bitBytes (values i)))) (sym z) ∙ write-inside v (bitBytes (values i)) 0 fits j (omega (arith, written)))
-          ∙ bits-at (values i) j
+        value-is : (j : ℕ) → j < i → bitFrom w current j ≡ valueAt boolLogic (values i) j
+        value-is j l = ap bit (ap (λ (l : List ℕ). byteAt l (current + j)) ew ∙ write-inside v (bitBytes (values i)) current fits j (omega (arith, written))) ∙ bits-at (values i) j
 
-      input-is-at : (k : ℕ) → k ≡ base + placeAmong isInput (netlistOf f) i → (l p : ℕ) → rowAt (netlistOf f) i ≡ input l p → bitAt inputs k ≡ stepInputs (netlistOf f) inputs base l p
-      input-is-at k ek l p e = ap (bitAt inputs) (ek ∙ ap (λ (m : ℕ). base + placeAmong isInput (netlistOf f) m) (sym (input-place (netlistOf f) (N .checked .unique) i (in-rows i h) l p e)))
+        input-is-at : (k : ℕ) → k ≡ placeAmong isInput (netlistOf f) i → (l p : ℕ) → rowAt (netlistOf f) i ≡ input l p → bitAt inputs (base + k) ≡ stepInputs (netlistOf f) inputs base l p
+        input-is-at k ek l p e = ap (bitFrom inputs base) (ek ∙ ap (placeAmong isInput (netlistOf f)) (sym (input-place (netlistOf f) (N .checked .unique) i (in-rows i h) l p e)))
 
-      pub evaluate-more : (k x : ℕ) → k ≡ base + placeAmong isInput (netlistOf f) i → x ≡ bitByte (rowValue boolLogic (bitAt w (half + i)) (λ l p. bitAt inputs k) (bitAt w) (rowAt (netlistOf f) i)) → set w i x ≡ sets v 0 (bitBytes (values (i + 1)))
-      unfolding valuesUpTo
-      evaluate-more k x ek ex =
-          let rows = netlistOf f in
-          let r = rowAt rows i in
-          let s = stateIn v half (length rows) in
-          let u = stepInputs rows inputs base in
-          let y = rowValue boolLogic (valueAt boolLogic s i) u (valueAt boolLogic (values i)) r in
-          let value : rowValue boolLogic (bitAt w (half + i)) (λ l p. bitAt inputs k) (bitAt w) r ≡ y =
-          ap (λ (t : Bool). rowValue boolLogic t (λ l p. bitAt inputs k) (bitAt w) r) held-is
-          ∙ input-cong (valueAt boolLogic s i) (λ l p. bitAt inputs k) u (bitAt w) r (input-is-at k ek)
-          ∙ row-cong boolLogic (valueAt boolLogic s i) u (bitAt w) (valueAt boolLogic (values i)) i value-is r (N .checked .ordered i (in-rows i h)) in
-          put-last w v (bitBytes (values i)) 0 i x ew (omega (arith, written))
-          ∙ ap (λ (z : ℕ). sets v 0 (bitBytes (values i) ++ (z ∷ []))) (ex ∙ ap bitByte value)
-          ∙ ap (λ (l : List ℕ). sets v 0 l) (sym (map-append bitByte (values i) (y ∷ [])))
-          ∙ ap (λ (m : ℕ). sets v 0 (bitBytes (values m))) (sym (add-one i))
+        pub evaluate-more : (k x : ℕ) → k ≡ placeAmong isInput (netlistOf f) i → x ≡ bitByte (rowValue boolLogic (heldIn w previous initial i (rowAt (netlistOf f) i)) (λ l p. bitAt inputs (base + k)) (bitFrom w current) (rowAt (netlistOf f) i))
+            → set w (current + i) x ≡ sets v current (bitBytes (values (i + 1)))
+        unfolding valuesUpTo
+        evaluate-more k x ek ex =
+            let rows = netlistOf f in
+            let r = rowAt rows i in
+            let s = stateFrom rows v previous initial in
+            let u = stepInputs rows inputs base in
+            let y = rowValue boolLogic (valueAt boolLogic s i) u (valueAt boolLogic (values i)) r in
+            let value : rowValue boolLogic (heldIn w previous initial i r) (λ l p. bitAt inputs (base + k)) (bitFrom w current) r ≡ y =
+            ap (λ (t : Bool). rowValue boolLogic t (λ l p. bitAt inputs (base + k)) (bitFrom w current) r) held-is
+            ∙ input-cong (valueAt boolLogic s i) (λ l p. bitAt inputs (base + k)) u (bitFrom w current) r (input-is-at k ek)
+            ∙ row-cong boolLogic (valueAt boolLogic s i) u (bitFrom w current) (valueAt boolLogic (values i)) i value-is r (N .checked .ordered i (in-rows i h)) in
+            put-last w v (bitBytes (values i)) current (current + i) x ew (omega (arith, written))
+            ∙ ap (λ (z : ℕ). sets v current (bitBytes (values i) ++ (z ∷ []))) (ex ∙ ap bitByte value)
+            ∙ ap (λ (l : List ℕ). sets v current l) (sym (map-append bitByte (values i) (y ∷ [])))
+            ∙ ap (λ (m : ℕ). sets v current (bitBytes (values m))) (sym (add-one i))
 
     -- All rows.
-    pub evaluate-all : (i : ℕ) (w : List ℕ) → i ≡ n → w ≡ sets v 0 (bitBytes (values i)) → w ≡ sets v 0 (bitBytes (valuesFrom (netlistOf f) inputs base v half))
+    pub evaluate-all : (w : List ℕ) → w ≡ sets v current (bitBytes (values n)) → w ≡ sets v current (bitBytes (valuesFrom (netlistOf f) inputs base (stateFrom (netlistOf f) v previous initial)))
     unfolding stepValues
-    evaluate-all i w e ew = ew ∙ ap (λ (m : ℕ). sets v 0 (bitBytes (values m))) (e ∙ N .ready .count)
+    evaluate-all w ew = ew ∙ ap (λ (m : ℕ). sets v current (bitBytes (values m))) (N .ready .count)
 
   -- ---- start
 
@@ -181,7 +199,7 @@ module _ (f : List ℕ) (n : ℕ) (N : NetlistReady f n) where
     pub choice-most : k ≤ i
     choice-most = omega (arith, count-some-le isUnknown constant (netlistOf f) i .0)
 
-  -- ---- start and advance: the byte of each row from `half` on
+  -- the byte of each row from `half` on
 
   module _ (F : Row → Bool) (low : F constant ≡ false) where
     row-bytes-length : length (bitBytes (map F (netlistOf f))) ≡ n
@@ -191,15 +209,6 @@ module _ (f : List ℕ) (n : ℕ) (N : NetlistReady f n) where
     row-byte i = bytes-at (map F (netlistOf f)) i ∙ ap bitByte (ap (λ (d : Bool). getD (map F (netlistOf f)) i d) (sym low) ∙ List·getD-map F (netlistOf f) i constant)
 
     module _ (half : ℕ) (v : List ℕ) (W : WorkReady n half v) (i : ℕ) (w : List ℕ) (h : i < n) (ew : w ≡ sets v half (take i (bitBytes (map F (netlistOf f))))) where
-      pub hold-ready : WorkReady n half w
-      hold-ready = work-written n half v w half (take i (bitBytes (map F (netlistOf f)))) W (binary-take (map F (netlistOf f)) i) ew
-
-      -- The values stay.
-      pub hold-values : (j : ℕ) → j < n → bitAt w j ≡ bitAt v j
-      hold-values j l =
-          let m = length-take-le i (bitBytes (map F (netlistOf f))) (omega (arith, row-bytes-length)) in
-          ap bit (ap (λ (l : List ℕ). byteAt l j) ew ∙ write-before v (take i (bitBytes (map F (netlistOf f)))) half (omega (arith, W .rows-fit, W .halves-fit)) j (omega (arith, W .rows-fit)))
-
       pub hold-more : (p x : ℕ) → p ≡ half + i → x ≡ bitByte (F (rowAt (netlistOf f) i)) → set w p x ≡ sets v half (take (i + 1) (bitBytes (map F (netlistOf f))))
       hold-more p x ep ex = put-next w v (bitBytes (map F (netlistOf f))) half i p x ew (omega (arith, row-bytes-length)) ep (ex ∙ sym (row-byte i))
 
@@ -208,18 +217,6 @@ module _ (f : List ℕ) (n : ℕ) (N : NetlistReady f n) where
     hold-all half v w i e ew = ew ∙ ap (λ (l : List ℕ). sets v half l) (take-all i (bitBytes (map F (netlistOf f))) (omega (arith, row-bytes-length)))
 
   module _ (half : ℕ) (v : List ℕ) (W : WorkReady n half v) (i : ℕ) (w : List ℕ) (h : i < n) where
-    -- The next values are read among the values, which stay.
-    abbrev nextIn : Row → Bool
-    nextIn = nextValue boolLogic (bitAt v)
-
-    pub next-below : NextBelow (length v) (rowAt (netlistOf f) i)
-    next-below = next-more (length (netlistOf f)) (length v) (omega (arith, N .ready .count, W .rows-fit, W .halves-fit)) (rowAt (netlistOf f) i) (N .checked .nexts i (in-rows i h))
-
-    pub advance-more : (p x : ℕ) → w ≡ sets v half (take i (bitBytes (map nextIn (netlistOf f)))) → p ≡ half + i → x ≡ bitByte (nextValue boolLogic (bitAt w) (rowAt (netlistOf f) i)) → set w p x ≡ sets v half (take (i + 1) (bitBytes (map nextIn (netlistOf f))))
-    advance-more p x ew ep ex =
-        hold-more nextIn refl half v W i w h ew p x ep
-        (ex ∙ ap bitByte (next-cong (bitAt w) (bitAt v) (length (netlistOf f)) (λ j l. hold-values nextIn refl half v W i w h ew j (omega (arith, N .ready .count))) (rowAt (netlistOf f) i) (N .checked .nexts i (in-rows i h))))
-
     module _ (choices : List ℕ) (k : ℕ) (ek : k ≡ placeAmong isUnknown (netlistOf f) i) where
       abbrev startIn : Row → Bool
       startIn = resetValue boolLogic (resetChoices (netlistOf f) choices)

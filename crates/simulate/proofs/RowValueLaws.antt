@@ -1,6 +1,6 @@
 -- What a row asks and gives, by the kind and the fields that are read of it.
 -- Assumes nothing.
-use Prim.Native.Nat.{ℕ, zero, suc, _+_, _<_, _≤_, _/_}
+use Prim.Native.Nat.{ℕ, zero, suc, _+_, _-_, _<_, _≤_, _/_}
 use mathlib.Core.Path.{_≡_, refl, sym, ap, _∙_, subst}
 use mathlib.Core.Bool.{Bool, true, false, cond, _&&_}
 use mathlib.Core.List.{List}
@@ -10,10 +10,10 @@ use lib.ListN.{length}
 use Rattle.memory.specs.Fields.{byteAt, u16At}
 use Rattle.netlist.specs.Rows.{Row, constant, rowFromFields, rowAt, isInput, isUnknown}
 use Rattle.netlist.specs.FileFormat.{rowOffset, netlistOf}
-use Rattle.netlist.specs.Simulation.{boolLogic, boolXor, literalValue, rowValue, resetValue, nextValue}
+use Rattle.netlist.specs.Simulation.{boolLogic, boolXor, literalValue, rowValue, resetValue}
 use Rattle.netlist.proofs.WellFormed.{OperandsBelow, NextBelow}
 use Rattle.blockfile.proofs.CountLaws.{SortsBy, sorts-by}
-use Rattle.simulate.specs.Values.{IsBinary, bit, bitAt, bitByte}
+use Rattle.simulate.specs.Values.{IsBinary, bit, bitAt, bitFrom, bitByte, heldIn}
 use Rattle.simulate.specs.Steps.{RowReady}
 use Rattle.simulate.proofs.BitLaws.{byte-bit, bit-byte}
 
@@ -28,18 +28,18 @@ other-kind (suc (suc (suc (suc (suc zero))))) r a b c n0 n1 n2 n3 n4 n5 n6 = abs
 other-kind (suc (suc (suc (suc (suc (suc zero)))))) r a b c n0 n1 n2 n3 n4 n5 n6 = absurd (n6 refl)
 other-kind (suc (suc (suc (suc (suc (suc (suc k))))))) r a b c n0 n1 n2 n3 n4 n5 n6 = refl
 
--- A row of another kind than 2 takes and starts as 0.
-no-register : (k r a b c : ℕ) (w u : ℕ → Bool) → (k ≡ 2 → ⊥) → (nextValue boolLogic w (rowFromFields k r a b c) ≡ false) × (resetValue boolLogic u (rowFromFields k r a b c) ≡ false)
-no-register zero r a b c w u n = (refl, refl)
-no-register (suc zero) r a b c w u n = (refl, refl)
-no-register (suc (suc zero)) r a b c w u n = absurd (n refl)
-no-register (suc (suc (suc zero))) r a b c w u n = (refl, refl)
-no-register (suc (suc (suc (suc zero)))) r a b c w u n = (refl, refl)
-no-register (suc (suc (suc (suc (suc zero))))) r a b c w u n = (refl, refl)
-no-register (suc (suc (suc (suc (suc (suc zero)))))) r a b c w u n = (refl, refl)
-no-register (suc (suc (suc (suc (suc (suc (suc k))))))) r a b c w u n = (refl, refl)
+-- A row of another kind than 2 starts as 0.
+no-register : (k r a b c : ℕ) (u : ℕ → Bool) → (k ≡ 2 → ⊥) → resetValue boolLogic u (rowFromFields k r a b c) ≡ false
+no-register zero r a b c u n = refl
+no-register (suc zero) r a b c u n = refl
+no-register (suc (suc zero)) r a b c u n = absurd (n refl)
+no-register (suc (suc (suc zero))) r a b c u n = refl
+no-register (suc (suc (suc (suc zero)))) r a b c u n = refl
+no-register (suc (suc (suc (suc (suc zero))))) r a b c u n = refl
+no-register (suc (suc (suc (suc (suc (suc zero)))))) r a b c u n = refl
+no-register (suc (suc (suc (suc (suc (suc (suc k))))))) r a b c u n = refl
 
-module _ (f : List ℕ) (i : ℕ) (R : RowReady f i) (k : ℕ) (ek : k ≡ byteAt f (rowOffset i)) (p : ℕ) (ep : p ≡ rowOffset i) where
+module _ (f : List ℕ) (i : ℕ) (R : RowReady f i) (p : ℕ) (ep : p ≡ rowOffset i) (k : ℕ) (ek : k ≡ byteAt f p) where
   abbrev row : Row
   row = rowAt (netlistOf f) i
 
@@ -62,33 +62,33 @@ module _ (f : List ℕ) (i : ℕ) (R : RowReady f i) (k : ℕ) (ek : k ≡ byteA
   operands : OperandsBelow i (rowFromFields k s a b c)
   operands = subst (OperandsBelow i) row-read (R .operands)
 
-  -- A literal names a row whose value stands in memory w.
-  abbrev Names : ℕ → List ℕ → Type 0
-  Names l w = l / 2 < length w
+  -- A literal names a row whose value stands in memory w, among those from o on.
+  module _ (w : List ℕ) (o : ℕ) (room : o + i < length w) where
+    abbrev Names : ℕ → Type 0
+    Names l = o + l / 2 < length w
 
-  module _ (w : List ℕ) (half : ℕ) (room : half + i < length w) where
-    pub and-names-a : k ≡ 3 → Names a w
+    pub and-names-a : k ≡ 3 → Names a
     and-names-a e = let o = rw e at operands in omega (arith, o .0)
 
-    pub and-names-b : k ≡ 3 → Names b w
+    pub and-names-b : k ≡ 3 → Names b
     and-names-b e = let o = rw e at operands in omega (arith, o .1)
 
-    pub xor-names-a : k ≡ 4 → Names a w
+    pub xor-names-a : k ≡ 4 → Names a
     xor-names-a e = let o = rw e at operands in omega (arith, o .0)
 
-    pub xor-names-b : k ≡ 4 → Names b w
+    pub xor-names-b : k ≡ 4 → Names b
     xor-names-b e = let o = rw e at operands in omega (arith, o .1)
 
-    pub mux-names-a : k ≡ 5 → Names a w
+    pub mux-names-a : k ≡ 5 → Names a
     mux-names-a e = let o = rw e at operands in omega (arith, o .0)
 
-    pub mux-names-b : k ≡ 5 → Names b w
+    pub mux-names-b : k ≡ 5 → Names b
     mux-names-b e = let o = rw e at operands in omega (arith, o .1)
 
-    pub mux-names-c : k ≡ 5 → Names c w
+    pub mux-names-c : k ≡ 5 → Names c
     mux-names-c e = let o = rw e at operands in omega (arith, o .2)
 
-    pub output-names : k ≡ 6 → Names a w
+    pub output-names : k ≡ 6 → Names a
     output-names e = let o = rw e at operands in omega (arith, o)
 
   -- ---- the row's value: h what it holds, u the inputs, w the nodes' values
@@ -125,21 +125,26 @@ module _ (f : List ℕ) (i : ℕ) (R : RowReady f i) (k : ℕ) (ek : k ≡ byteA
   pub value-input : (h : Bool) (w : ℕ → Bool) (inputs : List ℕ) (j : ℕ) → k ≡ 1 → IsBinary inputs → byteAt inputs j ≡ bitByte (rowValue boolLogic h (λ l p. bitAt inputs j) w row)
   value-input h w inputs j e bin = rw (row-read, e) (sym (byte-bit (byteAt inputs j) (bin j)))
 
-  pub value-register : (u : ℕ → ℕ → Bool) (w : ℕ → Bool) (held : List ℕ) (j : ℕ) → k ≡ 2 → IsBinary held → byteAt held j ≡ bitByte (rowValue boolLogic (bitAt held j) u w row)
-  value-register u w held j e bin = rw (row-read, e) (sym (byte-bit (byteAt held j) (bin j)))
+  pub value-register : (h : Bool) (u : ℕ → ℕ → Bool) (w : ℕ → Bool) (x : ℕ) → k ≡ 2 → x ≡ bitByte h → x ≡ bitByte (rowValue boolLogic h u w row)
+  value-register h u w x e ex = rw (row-read, e) ex
 
--- ---- what the row takes next, and starts as: its bytes read at place p
+-- ---- what the row holds, and starts as: its bytes read at place p
 
 module _ (f : List ℕ) (i : ℕ) (R : RowReady f i) (p : ℕ) (ep : p ≡ rowOffset i) where
   at-place : rowAt (netlistOf f) i ≡ rowFromFields (byteAt f p) (byteAt f (p + 1)) (u16At f (p + 2)) (u16At f (p + 4)) (u16At f (p + 6))
-  at-place = row-read f i R (byteAt f p) (ap (byteAt f) ep) p ep
+  at-place = row-read f i R p ep (byteAt f p) refl
 
   module _ (e : byteAt f p ≡ 2) where
-    pub next-names : (w : List ℕ) → NextBelow (length w) (rowAt (netlistOf f) i) → u16At f (p + 2) / 2 < length w
-    next-names w n = rw (at-place, e) at n
+    pub next-names : (w : List ℕ) (o : ℕ) → NextBelow (length w - o) (rowAt (netlistOf f) i) → o + u16At f (p + 2) / 2 < length w
+    next-names w o n = let b = rw (at-place, e) at n in omega (arith, b)
 
-    pub next-register : (w : ℕ → Bool) (x : ℕ) → x ≡ bitByte (literalValue boolLogic w (u16At f (p + 2))) → x ≡ bitByte (nextValue boolLogic w (rowAt (netlistOf f) i))
-    next-register w x ex = rw (at-place, e) ex
+    -- What the register holds in the initial step, and after it.
+    module _ (w : List ℕ) (o : ℕ) (t : Bool) (x : ℕ) where
+      pub held-initial : t ≡ true → IsBinary w → x ≡ byteAt w (o + i) → x ≡ bitByte (heldIn w o t i (rowAt (netlistOf f) i))
+      held-initial et bin ex = rw et (ex ∙ sym (byte-bit (byteAt w (o + i)) (bin (o + i))))
+
+      pub held-later : t ≡ false → x ≡ bitByte (literalValue boolLogic (bitFrom w o) (u16At f (p + 2))) → x ≡ bitByte (heldIn w o t i (rowAt (netlistOf f) i))
+      held-later et ex = rw (et, at-place, e) ex
 
     module _ (u : ℕ → Bool) where
       pub start-zero : byteAt f (p + 1) ≡ 0 → 0 ≡ bitByte (resetValue boolLogic u (rowAt (netlistOf f) i))
@@ -160,11 +165,8 @@ module _ (f : List ℕ) (i : ℕ) (R : RowReady f i) (p : ℕ) (ep : p ≡ rowOf
       start-unknown choices j bin = rw (at-place, e, reset-unknown) (sym (byte-bit (byteAt choices j) (bin j)))
 
   module _ (n : byteAt f p ≡ 2 → ⊥) where
-    pub next-other : (w : ℕ → Bool) → 0 ≡ bitByte (nextValue boolLogic w (rowAt (netlistOf f) i))
-    next-other w = rw (at-place, no-register (byteAt f p) (byteAt f (p + 1)) (u16At f (p + 2)) (u16At f (p + 4)) (u16At f (p + 6)) w w n .0)
-
     pub start-other : (u : ℕ → Bool) → 0 ≡ bitByte (resetValue boolLogic u (rowAt (netlistOf f) i))
-    start-other u = rw (at-place, no-register (byteAt f p) (byteAt f (p + 1)) (u16At f (p + 2)) (u16At f (p + 4)) (u16At f (p + 6)) u u n .1)
+    start-other u = rw (at-place, no-register (byteAt f p) (byteAt f (p + 1)) (u16At f (p + 2)) (u16At f (p + 4)) (u16At f (p + 6)) u n)
 
   sort : SortsBy (byteAt f p) (byteAt f (p + 1)) (rowAt (netlistOf f) i)
   sort = rw at-place (sorts-by (byteAt f p) (byteAt f (p + 1)) (u16At f (p + 2)) (u16At f (p + 4)) (u16At f (p + 6)))

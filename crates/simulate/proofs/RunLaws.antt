@@ -1,15 +1,18 @@
--- One step of the run from its three passes, and the run after one step more.
+-- One step of the run from its two passes, and the run after one step more.
 -- Assumes nothing.
 use Prim.Native.Nat.{ℕ, zero, suc, _+_, _-_, _*_, _<_, _≤_}
 use mathlib.Core.Path.{_≡_, refl, sym, ap, _∙_}
 use mathlib.Core.Bool.{Bool, true, false, cond, not, true≢false}
 use mathlib.Core.List.{List, [], _∷_, _++_, map}
+use mathlib.Core.Logic.{inl}
 use native.Mathlib.Omega.{arith}
 use native.Mathlib.Numerals.{add-one}
 use native.Mathlib.Nat.{suc-mul, mul-comm, mul-le-mul-right}
-use lib.ListN.{length, take, drop, length-append, length-drop, length-map}
-use lib.Seq.{sets, getD-drop, take-suc, take-length, ext-getD}
-use Rattle.memory.specs.Lists.{countIf, joinBelow}
+use lib.Dec.{eqb}
+use lib.ListN.{length, take, drop, length-append, length-drop, length-map, List·getD-map}
+use lib.Seq.{sets, length-sets, getD-drop, take-suc, take-length, ext-getD}
+use borrow.Author.Tests.{ne-eqb}
+use Rattle.memory.specs.Lists.{countIf, joinBelow, tabulate}
 use Rattle.memory.specs.Fields.{byteAt}
 use Rattle.memory.proofs.ListLaws.{join-length, tabulate-length, tabulate-at}
 use Rattle.memory.proofs.BufferLaws.{sets-join}
@@ -20,12 +23,12 @@ use Rattle.netlist.specs.RunLayout.{valuesFromBytes, stepBytes, runBytes}
 use Rattle.netlist.proofs.RowLaws.{output-is}
 use Rattle.netlist.proofs.SimulationLaws.{values-length}
 use Rattle.blockfile.proofs.CountLaws.{count-next}
-use Rattle.simulate.specs.Values.{bit, bitAt, bitByte, bitBytes, stateIn, stepInputs, resetChoices, valuesFrom, shownBytes}
-use Rattle.simulate.specs.Steps.{NetlistReady, WorkReady, Given, Stepped}
+use Rattle.simulate.specs.Values.{bit, bitFrom, bitByte, bitBytes, stateIn, heldIn, stateFrom, stepInputs, resetChoices, valuesFrom, shownBytes}
+use Rattle.simulate.specs.Steps.{NetlistReady, WorkReady, TwoHalves, Given, Stepped}
 use Rattle.simulate.proofs.BitLaws.{bit-byte, bytes-at, bits-at, binary-bytes}
 use Rattle.simulate.proofs.WriteLaws.{write-inside, write-front}
 use Rattle.simulate.proofs.PlaceLaws.{node-before, output-from, count-parts}
-use Rattle.simulate.proofs.PassLaws.{next-cong, work-written}
+use Rattle.simulate.proofs.PassLaws.{next-cong, work-written, halves-written, halves-turned}
 
 -- ---- numbers
 
@@ -38,23 +41,19 @@ step-next t k base e = rw (add-one t) (omega (arith, suc-mul t k))
 
 -- ---- lists
 
-map-cong : (F G : Row → Bool) (rows : List Row) → ((i : ℕ) → i < length rows → F (rowAt rows i) ≡ G (rowAt rows i)) → map F rows ≡ map G rows
-map-cong F G [] h = refl
-map-cong F G (r ∷ rs) h = cc (h 0 (omega arith), map-cong F G rs (λ i l. h (suc i) (omega arith)))
-
 join-none : (F : ℕ → List ℕ) (m : ℕ) → ((j : ℕ) → j < m → F j ≡ []) → joinBelow m F ≡ []
 join-none F zero h = refl
 join-none F (suc m) h = rw (join-none F m (λ j l. h j (omega arith)), h m (omega arith))
 
--- Lists that are empty before m, and from m on one byte of w each.
-join-tail : (F : ℕ → List ℕ) (w : List ℕ) (m d : ℕ) → m + d ≤ length w → ((j : ℕ) → j < m → F j ≡ []) → ((j : ℕ) → j < d → F (m + j) ≡ byteAt w (m + j) ∷ []) → joinBelow (m + d) F ≡ take d (drop m w)
-join-tail F w m zero h none one = let z : m + 0 ≡ m = omega arith in rw z (join-none F m none)
-join-tail F w m (suc d) h none one =
+-- Lists that are empty before m, and from m on one byte each of w, from o on.
+join-tail : (F : ℕ → List ℕ) (w : List ℕ) (m o d : ℕ) → o + d ≤ length w → ((j : ℕ) → j < m → F j ≡ []) → ((j : ℕ) → j < d → F (m + j) ≡ byteAt w (o + j) ∷ []) → joinBelow (m + d) F ≡ take d (drop o w)
+join-tail F w m o zero h none one = let z : m + 0 ≡ m = omega arith in rw z (join-none F m none)
+join-tail F w m o (suc d) h none one =
     let z : m + suc d ≡ suc (m + d) = omega arith in
     rw z
-    (ap (λ (l : List ℕ). l ++ F (m + d)) (join-tail F w m d (omega arith) none (λ j l. one j (omega arith)))
-    ∙ ap (λ (l : List ℕ). take d (drop m w) ++ l) (one d (omega arith) ∙ ap (λ (x : ℕ). x ∷ []) (sym (getD-drop m w d 0)))
-    ∙ sym (take-suc (drop m w) d 0 (omega (arith, length-drop m w))))
+    (ap (λ (l : List ℕ). l ++ F (m + d)) (join-tail F w m o d (omega arith) none (λ j l. one j (omega arith)))
+    ∙ ap (λ (l : List ℕ). take d (drop o w) ++ l) (one d (omega arith) ∙ ap (λ (x : ℕ). x ∷ []) (sym (getD-drop o w d 0)))
+    ∙ sym (take-suc (drop o w) d 0 (omega (arith, length-drop o w))))
 
 -- ---- what the outputs show
 
@@ -98,20 +97,21 @@ module _ (f : List ℕ) (n : ℕ) (N : NetlistReady f n) where
   pub nodes-most : nodes ≤ n
   nodes-most = omega (arith, count-parts isOutput constant (netlistOf f), N .ready .count)
 
-  -- The bytes of the rows from the nodes' number on.
-  shown-is : (vs : List Bool) (w : List ℕ) → n ≤ length w → ((j : ℕ) → j < n → byteAt w j ≡ bitByte (valueAt boolLogic vs j)) → take (n - nodes) (drop nodes w) ≡ shownBytes (netlistOf f) vs
+  -- The bytes of the outputs, where the rows' bytes stand from o on.
+  shown-is : (vs : List Bool) (w : List ℕ) (o : ℕ) → o + n ≤ length w → ((j : ℕ) → j < n → byteAt w (o + j) ≡ bitByte (valueAt boolLogic vs j)) → take (n - nodes) (drop (o + nodes) w) ≡ shownBytes (netlistOf f) vs
   unfolding shownBytes
-  shown-is vs w room bytes =
+  shown-is vs w o room bytes =
       let rows = netlistOf f in
       let m = nodes-most in
       let z : nodes + (n - nodes) ≡ length rows = omega (arith, N .ready .count) in
       sym
       (ap (λ (k : ℕ). joinBelow k (shownAt rows vs)) (sym z)
-      ∙ join-tail (shownAt rows vs) w nodes (n - nodes) (omega arith)
+      ∙ join-tail (shownAt rows vs) w nodes (o + nodes) (n - nodes) (omega arith)
       (λ j l. shown-node (bitByte (valueAt boolLogic vs j)) (rowAt rows j) (node-before rows (N .checked .nodes-first) j l))
       (λ j l.
+      let q : o + nodes + j ≡ o + (nodes + j) = omega arith in
       shown-output (bitByte (valueAt boolLogic vs (nodes + j))) (rowAt rows (nodes + j)) (output-from rows (N .checked .nodes-first) (nodes + j) (omega (arith, N .ready .count)) (omega arith))
-      ∙ ap (λ (x : ℕ). x ∷ []) (sym (bytes (nodes + j) (omega arith)))))
+      ∙ ap (λ (x : ℕ). x ∷ []) (sym (ap (byteAt w) q ∙ bytes (nodes + j) (omega arith)))))
 
   -- ---- states
 
@@ -122,32 +122,46 @@ module _ (f : List ℕ) (n : ℕ) (N : NetlistReady f n) where
         let m = length (netlistOf f) in
         let k = length-map ss bitByte in
         let fits : half + length (bitBytes ss) ≤ length v = omega (arith, N .ready .count, W .rows-fit, W .halves-fit) in
-        ext-getD false (stateIn w half m) ss (tabulate-length m (λ j. bitAt w (half + j)) ∙ sym e) (λ j l.
-        let b : j < m = omega (arith, l, tabulate-length m (λ (j : ℕ). bitAt w (half + j))) in
-        tabulate-at m (λ j. bitAt w (half + j)) j false b
+        ext-getD false (stateIn w half m) ss (tabulate-length m (λ j. bitFrom w half j) ∙ sym e) (λ j l.
+        let b : j < m = omega (arith, l, tabulate-length m (λ (j : ℕ). bitFrom w half j)) in
+        tabulate-at m (λ j. bitFrom w half j) j false b
         ∙ ap bit (ap (λ (l : List ℕ). byteAt l (half + j)) ew ∙ write-inside v (bitBytes ss) half fits j (omega arith))
         ∙ bits-at ss j)
 
-  -- The three passes are a step.
-  pub step-of : (inputs : List ℕ) (base half nds to : ℕ) (v w₁ w₂ r₀ r : List ℕ) → WorkReady n half v → nds ≡ nodes → w₁ ≡ sets v 0 (bitBytes (valuesFrom (netlistOf f) inputs base v half)) → r ≡ sets r₀ to (take (n - nds) (drop nds w₁))
-      → w₂ ≡ sets w₁ half (bitBytes (map (nextValue boolLogic (bitAt w₁)) (netlistOf f))) → Stepped (netlistOf f) half (valuesFrom (netlistOf f) inputs base v half) to w₂ r₀ r
+  -- Values vs that were written from o on.
+  module _ (o : ℕ) (v w : List ℕ) (vs : List Bool) (room : o + n ≤ length v) (count : length vs ≡ n) (ew : w ≡ sets v o (bitBytes vs)) where
+    values-written : (j : ℕ) → j < n → byteAt w (o + j) ≡ bitByte (valueAt boolLogic vs j)
+    values-written j l =
+        let k = length-map vs bitByte in
+        ap (λ (l : List ℕ). byteAt l (o + j)) ew ∙ write-inside v (bitBytes vs) o (omega arith) j (omega arith) ∙ bytes-at vs j
+
+    -- The state that the next step begins with.
+    state-next : stateFrom (netlistOf f) w o false ≡ map (nextValue boolLogic (valueAt boolLogic vs)) (netlistOf f)
+    state-next =
+        let rows = netlistOf f in
+        let m = length rows in
+        let held : ℕ → Bool = λ i. heldIn w o false i (rowAt rows i) in
+        let next : Row → Bool = nextValue boolLogic (valueAt boolLogic vs) in
+        ext-getD false (tabulate m held) (map next rows) (tabulate-length m held ∙ sym (length-map rows next)) (λ j l.
+        let b : j < m = omega (arith, l, tabulate-length m held) in
+        tabulate-at m held j false b
+        ∙ next-cong (bitFrom w o) (valueAt boolLogic vs) m (λ i h. ap bit (values-written i (omega (arith, N .ready .count))) ∙ bit-byte (valueAt boolLogic vs i)) (rowAt rows j) (N .checked .nexts j b)
+        ∙ sym (List·getD-map next rows j constant))
+
+  values-count : (inputs : List ℕ) (base : ℕ) (state : List Bool) → length (valuesFrom (netlistOf f) inputs base state) ≡ n
   unfolding stepValues
-  step-of inputs base half nds to v w₁ w₂ r₀ r W en e₁ er e₂ =
-      let rows = netlistOf f in
-      let vs = valuesFrom rows inputs base v half in
-      let count : length (bitBytes vs) ≡ n = length-map vs bitByte ∙ values-length boolLogic rows (stateIn v half (length rows)) (stepInputs rows inputs base) (length rows) ∙ sym (N .ready .count) in
-      let fits : 0 + length (bitBytes vs) ≤ length v = omega (arith, W .rows-fit, W .halves-fit) in
-      let bytes : (j : ℕ) → j < n → byteAt w₁ j ≡ bitByte (valueAt boolLogic vs j) = λ j l.
-      let z : 0 + j ≡ j = omega arith in
-      ap (λ (l : List ℕ). byteAt l j) e₁ ∙ ap (byteAt (sets v 0 (bitBytes vs))) (sym z) ∙ write-inside v (bitBytes vs) 0 fits j (omega arith) ∙ bytes-at vs j in
-      let W₁ = work-written n half v w₁ 0 (bitBytes vs) W (binary-bytes vs) e₁ in
-      let next = map (nextValue boolLogic (bitAt w₁)) rows in
+  values-count inputs base state = values-length boolLogic (netlistOf f) state (stepInputs (netlistOf f) inputs base) (length (netlistOf f)) ∙ sym (N .ready .count)
+
+  -- The two passes are a step.
+  pub step-of : (inputs : List ℕ) (base current previous : ℕ) (initial : Bool) (nds to : ℕ) (v w r₀ r : List ℕ) → TwoHalves n current previous v → nds ≡ nodes → w ≡ sets v current (bitBytes (valuesFrom (netlistOf f) inputs base (stateFrom (netlistOf f) v previous initial)))
+      → r ≡ sets r₀ to (take (n - nds) (drop (current + nds) w)) → Stepped (netlistOf f) (valuesFrom (netlistOf f) inputs base (stateFrom (netlistOf f) v previous initial)) current to v w r₀ r
+  step-of inputs base current previous initial nds to v w r₀ r H en ew er =
+      let state = stateFrom (netlistOf f) v previous initial in
+      let vs = valuesFrom (netlistOf f) inputs base state in
+      let room : current + n ≤ length w = omega (arith, H .current-fits, ap length ew ∙ length-sets v current (bitBytes vs)) in
       record {
-        binary = work-written n half w₁ w₂ half (bitBytes next) W₁ (binary-bytes next) e₂ .binary;
-        state = state-written half w₁ w₂ W₁ next (length-map rows (nextValue boolLogic (bitAt w₁))) e₂
-            ∙ map-cong (nextValue boolLogic (bitAt w₁)) (nextValue boolLogic (valueAt boolLogic vs)) rows (λ i l.
-            next-cong (bitAt w₁) (valueAt boolLogic vs) (length rows) (λ j k. ap bit (bytes j (omega (arith, N .ready .count))) ∙ bit-byte (valueAt boolLogic vs j)) (rowAt rows i) (N .checked .nexts i l));
-        shown = er ∙ rw en (ap (λ (l : List ℕ). sets r₀ to l) (shown-is vs w₁ (omega (arith, W₁ .rows-fit, W₁ .halves-fit)) bytes));
+        values = ew;
+        shown = er ∙ rw en (ap (λ (l : List ℕ). sets r₀ to l) (shown-is vs w current room (values-written current v w vs (H .current-fits) (values-count inputs base state) ew)));
       }
 
 -- Each step finds its inputs, and room for its outputs.
@@ -157,9 +171,9 @@ given-fits f n nds ins T choices inputs result work half G t base to h eb et =
 
 -- ---- the run after t steps: memory w, result r, which was r₀
 
-pub record Running (f : List ℕ) (choices inputs : List ℕ) (n half t : ℕ) (w r₀ r : List ℕ) : Type 0 where
-  pub work : WorkReady n half w
-  pub state : stateIn w half (length (netlistOf f)) ≡ runState boolLogic (netlistOf f) (valuesFromBytes (netlistOf f) choices inputs .choices) (valuesFromBytes (netlistOf f) choices inputs .inputs) t
+pub record Running (f : List ℕ) (choices inputs : List ℕ) (n current previous t : ℕ) (w r₀ r : List ℕ) : Type 0 where
+  pub work : TwoHalves n current previous w
+  pub state : stateFrom (netlistOf f) w previous (eqb t 0) ≡ runState boolLogic (netlistOf f) (valuesFromBytes (netlistOf f) choices inputs .choices) (valuesFromBytes (netlistOf f) choices inputs .inputs) t
   pub shown : r ≡ sets r₀ 0 (runBytes (netlistOf f) choices inputs t)
 
 module _ (f : List ℕ) (n : ℕ) (N : NetlistReady f n) (choices inputs : List ℕ) where
@@ -175,22 +189,24 @@ module _ (f : List ℕ) (n : ℕ) (N : NetlistReady f n) (choices inputs : List 
       (λ j l. sym (ap length (step-bytes _ j refl)) ∙ shown-length (netlistOf f) _)
       ∙ mul-comm (countIf isOutput (netlistOf f)) t
 
-  pub run-none : (half : ℕ) (v w r₀ : List ℕ) → WorkReady n half v → w ≡ sets v half (bitBytes (map (resetValue boolLogic (resetChoices (netlistOf f) choices)) (netlistOf f))) → Running f choices inputs n half 0 w r₀ r₀
+  pub run-none : (half : ℕ) (v w r₀ : List ℕ) → WorkReady n half v → w ≡ sets v half (bitBytes (map (resetValue boolLogic (resetChoices (netlistOf f) choices)) (netlistOf f))) → Running f choices inputs n 0 half 0 w r₀ r₀
   unfolding runState runBytes valuesFromBytes
   run-none half v w r₀ W e =
       let first = map (resetValue boolLogic (resetChoices (netlistOf f) choices)) (netlistOf f) in
+      let W₁ = work-written n half v w half (bitBytes first) W (binary-bytes first) e in
       record {
-        work = work-written n half v w half (bitBytes first) W (binary-bytes first) e;
+        work = record { current-fits = omega (arith, W₁ .rows-fit, W₁ .halves-fit); previous-fits = omega (arith, W₁ .rows-fit, W₁ .halves-fit); apart = inl (omega (arith, W₁ .rows-fit)); binary = W₁ .binary };
         state = state-written f n N half v w W first (length-map (netlistOf f) (resetValue boolLogic (resetChoices (netlistOf f) choices))) e;
         shown = refl;
       }
 
-  pub run-more : (half t ins base to outs : ℕ) (v w r₀ r r′ : List ℕ) → ins ≡ countIf isInput (netlistOf f) → base ≡ t * ins → outs ≡ countIf isOutput (netlistOf f) → to ≡ t * outs → length w ≡ length v
-      → Running f choices inputs n half t v r₀ r → Stepped (netlistOf f) half (valuesFrom (netlistOf f) inputs base v half) to w r r′ → Running f choices inputs n half (t + 1) w r₀ r′
+  pub run-more : (current previous t ins base to outs : ℕ) (v w r₀ r r′ : List ℕ) → ins ≡ countIf isInput (netlistOf f) → base ≡ t * ins → outs ≡ countIf isOutput (netlistOf f) → to ≡ t * outs
+      → Running f choices inputs n current previous t v r₀ r → Stepped (netlistOf f) (valuesFrom (netlistOf f) inputs base (stateFrom (netlistOf f) v previous (eqb t 0))) current to v w r r′ → Running f choices inputs n previous current (t + 1) w r₀ r′
   unfolding runState runBytes valuesFromBytes
-  run-more half t ins base to outs v w r₀ r r′ ei eb eo et el U S =
+  run-more current previous t ins base to outs v w r₀ r r′ ei eb eo et U S =
       let rows = netlistOf f in
-      let vs = valuesFrom rows inputs base v half in
+      let state = stateFrom rows v previous (eqb t 0) in
+      let vs = valuesFrom rows inputs base state in
       let run = valuesFromBytes rows choices inputs in
       let same : vs ≡ stepValues boolLogic rows (runState boolLogic rows (run .choices) (run .inputs) t) (run .inputs t) =
       ap (λ (s : List Bool). stepValues boolLogic rows s (stepInputs rows inputs base)) (U .state)
@@ -198,8 +214,8 @@ module _ (f : List ℕ) (n : ℕ) (N : NetlistReady f n) (choices inputs : List 
       let front : to ≡ 0 + length (runBytes rows choices inputs t) = omega (arith, et ∙ ap (λ (k : ℕ). t * k) eo, run-length t) in
       rw (add-one t)
       (record {
-        work = record { rows-fit = U .work .rows-fit; halves-fit = omega (arith, U .work .halves-fit); binary = S .binary };
-        state = S .state ∙ ap (λ (l : List Bool). map (nextValue boolLogic (valueAt boolLogic l)) rows) same;
+        work = halves-turned n current previous w (halves-written n current previous v w current (bitBytes vs) (U .work) (binary-bytes vs) (S .values));
+        state = ap (stateFrom rows w current) (ne-eqb (suc t) 0 (λ e. omega arith)) ∙ state-next f n N current v w vs (U .work .current-fits) (values-count f n N inputs base state) (S .values) ∙ ap (λ (l : List Bool). map (nextValue boolLogic (valueAt boolLogic l)) rows) same;
         shown = S .shown
             ∙ ap (λ (l : List ℕ). sets l to (shownBytes rows vs)) (U .shown)
             ∙ ap (λ (k : ℕ). sets (sets r₀ 0 (runBytes rows choices inputs t)) k (shownBytes rows vs)) front
@@ -207,7 +223,7 @@ module _ (f : List ℕ) (n : ℕ) (N : NetlistReady f n) (choices inputs : List 
             ∙ ap (λ (l : List ℕ). sets r₀ 0 (runBytes rows choices inputs t ++ l)) (step-bytes vs t same);
       })
 
-  pub run-end : (half T : ℕ) (w r₀ r : List ℕ) → T * countIf isOutput (netlistOf f) ≤ length r₀ → Running f choices inputs n half T w r₀ r → r ≡ runBytes (netlistOf f) choices inputs T ++ drop (T * countIf isOutput (netlistOf f)) r₀
-  run-end half T w r₀ r h U =
+  pub run-end : (current previous T : ℕ) (w r₀ r : List ℕ) → T * countIf isOutput (netlistOf f) ≤ length r₀ → Running f choices inputs n current previous T w r₀ r → r ≡ runBytes (netlistOf f) choices inputs T ++ drop (T * countIf isOutput (netlistOf f)) r₀
+  run-end current previous T w r₀ r h U =
       let run = runBytes (netlistOf f) choices inputs T in
       U .shown ∙ write-front r₀ run (omega (arith, run-length T)) ∙ ap (λ (k : ℕ). run ++ drop k r₀) (run-length T)

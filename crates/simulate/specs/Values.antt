@@ -1,5 +1,5 @@
 -- Values in lent memory, a byte 0 or 1 each: a state, the inputs of a step, the choices.
--- Interface: IsBinary, bit, bitAt, bitByte, bitBytes, stateIn, stepInputs, resetChoices, valuesFrom, shownBytes.
+-- Interface: IsBinary, bit, bitAt, bitFrom, bitByte, bitBytes, stateIn, heldIn, stateFrom, stepInputs, resetChoices, valuesBefore, valuesFrom, shownBytes.
 -- Assumes nothing.
 use Prim.Native.Nat.{ℕ, _+_, _≤_}
 use mathlib.Core.Bool.{Bool, cond, not}
@@ -9,7 +9,7 @@ use lib.Dec.{eqb}
 use Rattle.memory.specs.Lists.{joinBelow, tabulate}
 use Rattle.memory.specs.Fields.{byteAt}
 use Rattle.netlist.specs.Rows.{Row, isInput, isUnknown, rowAt, onOutput, rowNamed}
-use Rattle.netlist.specs.Simulation.{boolLogic, valueAt, stepValues}
+use Rattle.netlist.specs.Simulation.{boolLogic, valueAt, nextValue, valuesUpTo, stepValues}
 use Rattle.netlist.specs.RunLayout.{placeAmong}
 
 -- Each byte is 0 or 1.
@@ -23,6 +23,10 @@ bit n = not (eqb n 0)
 abbrev pub bitAt : List ℕ → ℕ → Bool
 bitAt s i = bit (byteAt s i)
 
+-- The value of row i, whose rows' values stand from `from` on.
+abbrev pub bitFrom : List ℕ → ℕ → ℕ → Bool
+bitFrom s from i = bitAt s (from + i)
+
 abbrev pub bitByte : Bool → ℕ
 bitByte b = cond b 1 0
 
@@ -31,7 +35,15 @@ bitBytes bs = map bitByte bs
 
 -- The state of n rows whose bytes stand from `half` on.
 abbrev pub stateIn : List ℕ → ℕ → ℕ → List Bool
-stateIn work half n = tabulate n (λ j. bitAt work (half + j))
+stateIn work half n = tabulate n (bitFrom work half)
+
+-- What row i, which is r, holds as a register: in the initial step its byte from `previous` on, then what its literal showed in the last step, whose values stand there.
+abbrev pub heldIn : List ℕ → ℕ → Bool → ℕ → Row → Bool
+heldIn work previous initial i r = cond initial (bitFrom work previous i) (nextValue boolLogic (bitFrom work previous) r)
+
+-- The state that a step begins with.
+abbrev pub stateFrom : List Row → List ℕ → ℕ → Bool → List Bool
+stateFrom rows work previous initial = tabulate (length rows) (λ i. heldIn work previous initial i (rowAt rows i))
 
 -- The inputs of the step whose bytes stand from `base` on, by label and phase.
 abbrev pub stepInputs : List Row → List ℕ → ℕ → ℕ → ℕ → Bool
@@ -41,9 +53,13 @@ stepInputs rows inputs base l p = bitAt inputs (base + placeAmong isInput rows (
 abbrev pub resetChoices : List Row → List ℕ → ℕ → Bool
 resetChoices rows choices l = bitAt choices (placeAmong isUnknown rows (rowNamed 2 l 0 rows))
 
--- The rows' values in the step that begins with the state in `work` and whose inputs stand from `base` on.
-abbrev pub valuesFrom : List Row → List ℕ → ℕ → List ℕ → ℕ → List Bool
-valuesFrom rows inputs base work half = stepValues boolLogic rows (stateIn work half (length rows)) (stepInputs rows inputs base)
+-- The values of the first i rows in the step that begins with this state and whose inputs stand from `base` on.
+abbrev pub valuesBefore : List Row → List ℕ → ℕ → List Bool → ℕ → List Bool
+valuesBefore rows inputs base state i = valuesUpTo boolLogic rows state (stepInputs rows inputs base) i
+
+-- The values of all rows in that step.
+abbrev pub valuesFrom : List Row → List ℕ → ℕ → List Bool → List Bool
+valuesFrom rows inputs base state = stepValues boolLogic rows state (stepInputs rows inputs base)
 
 -- What the outputs show of the rows' values, a byte each.
 unfoldable pub shownBytes : List Row → List Bool → List ℕ

@@ -1,39 +1,50 @@
-// Run's steps: the rows' values in a step, what the outputs show of them, and what the registers take next.
-// Work has a row's value at its number, and what a register holds at `half` plus its number.
+// Run's steps: the rows' values in a step, and what the outputs show of them.
+// Work has the rows' values twice. A step puts its own from byte `current` on and reads the last step's from byte `previous` on: a register
+// takes what its literal showed there, and in the initial step the value that stands there for its row. Then the two places change roles.
 ghost use mathlib.Core.Path.{_≡_};
 ghost use mathlib.Core.Bool.{true, cond, not, _&&_};
-ghost use mathlib.Core.List.{_++_, map};
-ghost use Prim.Native.Nat.{_+_, _-_, _*_, _/_, _<_, _≤_};
+ghost use mathlib.Core.List.{List, _++_, map};
+ghost use Prim.Native.Nat.{ℕ, _+_, _-_, _*_, _/_, _<_, _≤_};
 ghost use lib.ListN.{length, take, drop};
 ghost use lib.Seq.{sets};
 ghost use Rattle.memory.specs.Lists.{countIf};
 ghost use Rattle.memory.specs.Fields.{byteAt, u16At};
 ghost use Rattle.netlist.specs.Rows.{rowAt, isInput, isUnknown, isOutput};
 ghost use Rattle.netlist.specs.FileFormat.{rowOffset, netlistOf};
-ghost use Rattle.netlist.specs.Simulation.{boolLogic, boolXor, literalValue, rowValue, resetValue, nextValue};
-ghost use Rattle.netlist.specs.RunLayout.{runBytes};
+ghost use Rattle.netlist.specs.Simulation.{boolLogic, boolXor, literalValue, rowValue, resetValue};
+ghost use Rattle.netlist.specs.RunLayout.{placeAmong, runBytes};
 ghost use Rattle.netlist.proofs.WellFormed.{NextBelow};
-ghost use Rattle.simulate.specs.Values.{IsBinary, bit, bitAt, bitByte, bitBytes, resetChoices, valuesFrom};
-ghost use Rattle.simulate.specs.Steps.{RowReady, NetlistReady, WorkReady, Given, Stepped};
+ghost use Rattle.simulate.specs.Values.{IsBinary, bit, bitAt, bitFrom, bitByte, bitBytes, heldIn, stateFrom, resetChoices, valuesBefore, valuesFrom};
+ghost use Rattle.simulate.specs.Steps.{RowReady, NetlistReady, WorkReady, TwoHalves, BlockRows, Given, Stepped};
 
-// The value of the literal: its node's, changed if the literal is odd.
-fn literal_value(work: &[u8], literal: usize) -> u8
-    requires { ⌜ (literal / 2 < length (now work)) × IsBinary (now work) ⌝ }
-    ensures { λ r. ⌜ (r ≡ bitByte (literalValue boolLogic (bitAt (now (work .entry))) literal)) × (r ≤ 1) ⌝ }
+// The file: where its first row stands, and the sizes of a row and of a block.
+const FIRST_ROW: usize = 4;
+
+const ROW_BYTES: usize = 8;
+
+const BLOCK_ROWS: usize = 63;
+
+const BLOCK_BYTES: usize = 512;
+
+// The value of the literal among those from byte `from` on: its node's, changed if the literal is odd.
+fn literal_value(work: &[u8], from: usize, literal: usize) -> u8
+    requires { ⌜ (from + literal / 2 < length (now work)) × IsBinary (now work) ⌝ }
+    ensures { λ r. ⌜ (r ≡ bitByte (literalValue boolLogic (bitFrom (now (work .entry)) from) literal)) × (r ≤ 1) ⌝ }
 {
     let node = literal / 2;
-    let value = work[node] as usize;
+    let place = from + node;
+    let value = work[place] as usize;
     let sum = value + literal;
     (sum % 2) as u8
 }
 
 // The value of the literal in the field at `at`.
-fn field_value(file: &[u8], at: usize, work: &[u8]) -> u8
-    requires { ⌜ (at + 2 ≤ length (now file)) × ((u16At (now file) at / 2 < length (now work)) × IsBinary (now work)) ⌝ }
-    ensures { λ r. ⌜ (r ≡ bitByte (literalValue boolLogic (bitAt (now (work .entry))) (u16At (now (file .entry)) at))) × (r ≤ 1) ⌝ }
+fn field_value(file: &[u8], at: usize, work: &[u8], from: usize) -> u8
+    requires { ⌜ (at + 2 ≤ length (now file)) × ((from + u16At (now file) at / 2 < length (now work)) × IsBinary (now work)) ⌝ }
+    ensures { λ r. ⌜ (r ≡ bitByte (literalValue boolLogic (bitFrom (now (work .entry)) from) (u16At (now (file .entry)) at))) × (r ≤ 1) ⌝ }
 {
     let literal = blockfile::field_at(file, at);
-    literal_value(work, literal)
+    literal_value(work, from, literal)
 }
 
 fn and_of(x: u8, y: u8) -> u8
@@ -57,97 +68,171 @@ fn mux_of(selector: u8, x: u8, y: u8) -> u8
     if selector == 0 { y } else { x }
 }
 
-// The value of a row of this kind; if it is an input, its byte stands at `input`.
+// What the register that stands at `place` holds: in the initial step what it starts as, then what its literal showed in the last step.
+fn held_value(
+    file: &[u8],
+    row: usize,
+    place: usize,
+    work: &[u8],
+    previous: usize,
+    initial: bool,
+) -> u8
+    requires { ⌜ RowReady (now file) row × ((place ≡ rowOffset row) × (byteAt (now file) place ≡ 2)) ⌝ }
+    requires { ⌜ (previous + row < length (now work)) × (NextBelow (length (now work) - previous) (rowAt (netlistOf (now file)) row) × IsBinary (now work)) ⌝ }
+    ensures { λ r. ⌜ r ≡ bitByte (heldIn (now (work .entry)) previous initial row (rowAt (netlistOf (now (file .entry))) row)) ⌝ }
+{
+    let held = previous + row;
+    let at_a = place + 2;
+    if initial {
+        work[held]
+    } else {
+        field_value(file, at_a, work, previous)
+    }
+}
+
+// The value of a row of this kind that stands at `place`; if it is an input, its byte stands at `input`.
 fn row_value(
     file: &[u8],
     row: usize,
+    place: usize,
     kind: u8,
     inputs: &[u8],
     input: usize,
     work: &[u8],
-    half: usize,
+    current: usize,
+    previous: usize,
+    initial: bool,
 ) -> u8
-    requires { ⌜ RowReady (now file) row × (kind ≡ byteAt (now file) (rowOffset row)) ⌝ }
+    requires { ⌜ RowReady (now file) row × ((place ≡ rowOffset row) × (kind ≡ byteAt (now file) place)) ⌝ }
     requires { ⌜ (kind ≡ 1 → input < length (now inputs)) × IsBinary (now inputs) ⌝ }
-    requires { ⌜ (half + row < length (now work)) × IsBinary (now work) ⌝ }
-    ensures { λ r. ⌜ r ≡ bitByte (rowValue boolLogic (bitAt (now (work .entry)) (half + row)) (λ l p. bitAt (now (inputs .entry)) input) (bitAt (now (work .entry))) (rowAt (netlistOf (now (file .entry))) row)) ⌝ }
+    requires { ⌜ (current + row < length (now work)) × ((previous + row < length (now work)) × (NextBelow (length (now work) - previous) (rowAt (netlistOf (now file)) row) × IsBinary (now work))) ⌝ }
+    ensures { λ r. ⌜ r ≡ bitByte (rowValue boolLogic (heldIn (now (work .entry)) previous initial row (rowAt (netlistOf (now (file .entry))) row)) (λ l p. bitAt (now (inputs .entry)) input) (bitFrom (now (work .entry)) current) (rowAt (netlistOf (now (file .entry))) row)) ⌝ }
 {
-    let place = blockfile::row_place(row);
     let at_a = place + 2;
     let at_b = place + 4;
     let at_c = place + 6;
-    let held = half + row;
     match kind {
         0 => 0,
         1 => inputs[input],
-        2 => work[held],
+        2 => held_value(file, row, place, work, previous, initial),
         3 => {
-            let x = field_value(file, at_a, work);
-            let y = field_value(file, at_b, work);
+            let x = field_value(file, at_a, work, current);
+            let y = field_value(file, at_b, work, current);
             and_of(x, y)
         }
         4 => {
-            let x = field_value(file, at_a, work);
-            let y = field_value(file, at_b, work);
+            let x = field_value(file, at_a, work, current);
+            let y = field_value(file, at_b, work, current);
             xor_of(x, y)
         }
         5 => {
-            let selector = field_value(file, at_a, work);
-            let x = field_value(file, at_b, work);
-            let y = field_value(file, at_c, work);
+            let selector = field_value(file, at_a, work, current);
+            let x = field_value(file, at_b, work, current);
+            let y = field_value(file, at_c, work, current);
             mux_of(selector, x, y)
         }
-        6 => field_value(file, at_a, work),
+        6 => field_value(file, at_a, work, current),
         _ => 0,
     }
 }
 
-// The values of all rows in the step whose inputs stand from `base` on.
-fn evaluate(file: &[u8], rows: usize, inputs: &[u8], base: usize, work: &mut [u8], half: usize)
-    requires { ⌜ NetlistReady (now file) rows × WorkReady rows half (now work) ⌝ }
-    requires { ⌜ IsBinary (now inputs) × (base + countIf isInput (netlistOf (now file)) ≤ length (now inputs)) ⌝ }
-    ensures { λ _. ⌜ now (work .exit) ≡ sets (now (work .entry)) 0 (bitBytes (valuesFrom (netlistOf (now (file .entry))) (now (inputs .entry)) base (now (work .entry)) half)) ⌝ }
+// Puts the values of the rows from `start` to `stop` - 1 of a block, which stand from `first` on. The step's inputs stand from `base` on, and `before` of them are of rows before `start`; answers how many are of rows before `stop`.
+fn evaluate_rows(
+    file: &[u8],
+    start: usize,
+    stop: usize,
+    first: usize,
+    inputs: &[u8],
+    base: usize,
+    before: usize,
+    work: &mut [u8],
+    current: usize,
+    previous: usize,
+    initial: bool,
+) -> usize
+    requires { ⌜ BlockRows (now file) start stop first × TwoHalves (length (netlistOf (now file))) current previous (now work) ⌝ }
+    requires { ⌜ IsBinary (now inputs) × ((base + countIf isInput (netlistOf (now file)) ≤ length (now inputs)) × (before ≡ placeAmong isInput (netlistOf (now file)) start)) ⌝ }
+    ensures { λ r. ⌜ (r ≡ placeAmong isInput (netlistOf (now (file .entry))) stop) × ((v : List ℕ) → now (work .entry) ≡ sets v current (bitBytes (valuesBefore (netlistOf (now (file .entry))) (now (inputs .entry)) base (stateFrom (netlistOf (now (file .entry))) v previous initial) start)) → now (work .exit) ≡ sets v current (bitBytes (valuesBefore (netlistOf (now (file .entry))) (now (inputs .entry)) base (stateFrom (netlistOf (now (file .entry))) v previous initial) stop))) ⌝ }
 {
-    let mut row = 0;
-    let mut input = base;
-    'rows: while row < rows {
-        let place = blockfile::row_place(row);
+    let mut row = start;
+    let mut place = first;
+    let mut used = before;
+    'rows: while row < stop {
         let kind = file[place];
-        let value = row_value(file, row, kind, inputs, input, work, half);
-        let used = blockfile::count::one_if(kind == 1);
-        work[row] = value;
-        input += used;
+        let input = base + used;
+        let value = row_value(
+            file,
+            row,
+            place,
+            kind,
+            inputs,
+            input,
+            work,
+            current,
+            previous,
+            initial,
+        );
+        let more = blockfile::count::one_if(kind == 1);
+        let target = current + row;
+        work[target] = value;
+        used += more;
+        place += ROW_BYTES;
         row += 1;
     }
+    used
 }
 
-// What the row takes next; 0 if it is no register.
-fn next_value(file: &[u8], row: usize, work: &[u8]) -> u8
-    requires { ⌜ RowReady (now file) row × (NextBelow (length (now work)) (rowAt (netlistOf (now file)) row) × IsBinary (now work)) ⌝ }
-    ensures { λ r. ⌜ r ≡ bitByte (nextValue boolLogic (bitAt (now (work .entry))) (rowAt (netlistOf (now (file .entry))) row)) ⌝ }
+// Puts the values of all rows in the step whose inputs stand from `base` on: those of the whole blocks, then those of the rest.
+fn evaluate(
+    file: &[u8],
+    rows: usize,
+    inputs: &[u8],
+    base: usize,
+    work: &mut [u8],
+    current: usize,
+    previous: usize,
+    initial: bool,
+)
+    requires { ⌜ NetlistReady (now file) rows × TwoHalves rows current previous (now work) ⌝ }
+    requires { ⌜ IsBinary (now inputs) × (base + countIf isInput (netlistOf (now file)) ≤ length (now inputs)) ⌝ }
+    ensures { λ _. ⌜ now (work .exit) ≡ sets (now (work .entry)) current (bitBytes (valuesFrom (netlistOf (now (file .entry))) (now (inputs .entry)) base (stateFrom (netlistOf (now (file .entry))) (now (work .entry)) previous initial))) ⌝ }
 {
-    let place = blockfile::row_place(row);
-    let at_a = place + 2;
-    let kind = file[place];
-    if kind == 2 {
-        field_value(file, at_a, work)
-    } else {
-        0
+    let rest = rows % BLOCK_ROWS;
+    let whole = rows - rest;
+    let mut start = 0;
+    let mut first = FIRST_ROW;
+    let mut used = 0;
+    'each_block: while start < whole {
+        let stop = start + BLOCK_ROWS;
+        used = evaluate_rows(
+            file,
+            start,
+            stop,
+            first,
+            inputs,
+            base,
+            used,
+            &mut *work,
+            current,
+            previous,
+            initial,
+        );
+        start = stop;
+        first += BLOCK_BYTES;
     }
-}
-
-// All registers take their next values together.
-fn advance(file: &[u8], rows: usize, work: &mut [u8], half: usize)
-    requires { ⌜ NetlistReady (now file) rows × WorkReady rows half (now work) ⌝ }
-    ensures { λ _. ⌜ now (work .exit) ≡ sets (now (work .entry)) half (bitBytes (map (nextValue boolLogic (bitAt (now (work .entry)))) (netlistOf (now (file .entry))))) ⌝ }
-{
-    let mut row = 0;
-    'rows: while row < rows {
-        let next = next_value(file, row, work);
-        let place = half + row;
-        work[place] = next;
-        row += 1;
-    }
+    evaluate_rows(
+        file,
+        start,
+        rows,
+        first,
+        inputs,
+        base,
+        used,
+        work,
+        current,
+        previous,
+        initial,
+    );
 }
 
 // What the row starts as; 0 if it is no register. If its reset is unknown, its choice stands at `choice`.
@@ -215,7 +300,7 @@ fn show(work: &[u8], from: usize, count: usize, result: &mut [u8], to: usize)
     }
 }
 
-// One step: the rows' values, the outputs' bytes from byte `to` of result on, the registers' next values.
+// One step: the rows' values, and the outputs' bytes from byte `to` of result on.
 fn step(
     file: &[u8],
     rows: usize,
@@ -225,17 +310,28 @@ fn step(
     result: &mut [u8],
     to: usize,
     work: &mut [u8],
-    half: usize,
+    current: usize,
+    previous: usize,
+    initial: bool,
 )
-    requires { ⌜ NetlistReady (now file) rows × WorkReady rows half (now work) ⌝ }
+    requires { ⌜ NetlistReady (now file) rows × TwoHalves rows current previous (now work) ⌝ }
     requires { ⌜ IsBinary (now inputs) × (base + countIf isInput (netlistOf (now file)) ≤ length (now inputs)) ⌝ }
     requires { ⌜ (nodes ≡ countIf (λ r. not (isOutput r)) (netlistOf (now file))) × (to + (rows - nodes) ≤ length (now result)) ⌝ }
-    ensures { λ _. ⌜ Stepped (netlistOf (now (file .entry))) half (valuesFrom (netlistOf (now (file .entry))) (now (inputs .entry)) base (now (work .entry)) half) to (now (work .exit)) (now (result .entry)) (now (result .exit)) ⌝ }
+    ensures { λ _. ⌜ Stepped (netlistOf (now (file .entry))) (valuesFrom (netlistOf (now (file .entry))) (now (inputs .entry)) base (stateFrom (netlistOf (now (file .entry))) (now (work .entry)) previous initial)) current to (now (work .entry)) (now (work .exit)) (now (result .entry)) (now (result .exit)) ⌝ }
 {
     let outputs = rows - nodes;
-    evaluate(file, rows, inputs, base, &mut *work, half);
-    show(work, nodes, outputs, result, to);
-    advance(file, rows, work, half);
+    let shown = current + nodes;
+    evaluate(
+        file,
+        rows,
+        inputs,
+        base,
+        &mut *work,
+        current,
+        previous,
+        initial,
+    );
+    show(work, shown, outputs, result, to);
 }
 
 // A run of this many steps over an accepted file of this many rows; the first `nodes` of them are its nodes.
@@ -258,8 +354,11 @@ pub fn run_steps(
     start(file, rows, choices, &mut *work, half);
     let mut base = 0;
     let mut to = 0;
+    let mut current = 0;
+    let mut previous = half;
     let mut done = 0;
     'steps: while done < steps {
+        let initial = done == 0;
         step(
             file,
             rows,
@@ -269,8 +368,13 @@ pub fn run_steps(
             &mut *result,
             to,
             &mut *work,
-            half,
+            current,
+            previous,
+            initial,
         );
+        let last = current;
+        current = previous;
+        previous = last;
         base += inputs_a_step;
         to += outputs;
         done += 1;

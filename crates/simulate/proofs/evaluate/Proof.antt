@@ -1,100 +1,61 @@
--- `evaluate` meets its contract. The loop's invariant: the rows before `row` have their values from byte 0 on, no other byte is changed, and `input` counts the inputs passed. The measure is the number of rows left.
+-- `evaluate` meets its contract. The loop's invariant: the rows before `start` have their values, no other byte is changed, and `start` is the first row of a block and stands at `first`. The measure is the number of rows left in whole blocks.
 -- Assumes nothing.
-use Prim.Native.Nat.{_+_, _-_, _≤_}
-use mathlib.Core.Path.{_≡_, refl, ap}
+use Prim.Native.Nat.{_-_, _≤_}
+use mathlib.Core.Path.{_∙_}
 use native.Mathlib.Omega.{arith}
-use lib.ListN.{length, length-set}
-use lib.Seq.{sets}
-use Rattle.memory.specs.Fields.{byteAt}
-use Rattle.netlist.specs.Rows.{isInput}
-use Rattle.netlist.specs.FileFormat.{netlistOf}
-use Rattle.netlist.specs.RunLayout.{placeAmong}
-use Rattle.simulate.specs.Values.{bitBytes}
-use Rattle.simulate.proofs.PassLaws.{valuesBefore, row-ready, input-there, input-next, input-fits, evaluate-none, evaluate-ready, evaluate-more, evaluate-all}
+use Rattle.simulate.proofs.WalkLaws.{BlocksWalked, blocks-none, block-rows, block-halves, block-place, blocks-more, blocks-all}
 use Rattle.simulate.proofs.evaluate.Statement.{statement}
 use Rattle.simulate.proofs.evaluate.Tie as tie
 
-abbrev Inv-rows : tie.InvT-rows
-Inv-rows file rows inputs base work₀ half row₀ input₀ work row input = (row ≤ rows) × ((input ≡ base + placeAmong isInput (netlistOf file) row) × ((length work ≡ length work₀) × (work ≡ sets work₀ 0 (bitBytes (valuesBefore (netlistOf file) inputs base work₀ half row)))))
+abbrev Inv-each-block : tie.InvT-each-block
+Inv-each-block file rows inputs base work₀ current previous initial rest whole start₀ first₀ used₀ work start first used = (start ≤ whole) × BlocksWalked file inputs base current previous initial work₀ work start first used
 
-abbrev μ-rows : tie.MeasureT-rows
-μ-rows file rows inputs base work₀ half row₀ input₀ work row input = rows - row
+abbrev μ-each-block : tie.MeasureT-each-block
+μ-each-block file rows inputs base work₀ current previous initial rest whole start₀ first₀ used₀ work start first used = whole - start
 
-rows-holds : tie.Need-rows-holds Inv-rows μ-rows
-rows-holds c = (omega arith, (omega arith, (refl, evaluate-none (c .before .before .before .args .file .now) (c .before .before .before .args .rows) (c .before .before .before .pre .0 .0) (c .before .before .before .args .inputs .now) (c .before .before .before .args .base) (c .before .before .before .args .half) (c .before .before .before .args .work .now) (c .before .before .before .pre .0 .1))))
+sub-whole : tie.Need-sub-whole Inv-each-block μ-each-block
+sub-whole c = omega arith
 
-row-place-requires : tie.Need-row-place-requires Inv-rows μ-rows
-row-place-requires c κs = omega (arith, c .before .before .before .before .before .pre .0 .0 .ready .few)
+each-block-holds : tie.Need-each-block-holds Inv-each-block μ-each-block
+each-block-holds c = (omega arith, blocks-none _ _ (c .before .before .before .pre .0 .0) _ _ _ _ _ _ (c .before .before .before .pre .0 .1))
 
-shared-slice-read-kind : tie.Need-shared-slice-read-kind Inv-rows μ-rows
-shared-slice-read-kind c = omega (arith, c .before .before .before .before .before .before .before .pre .0 .0 .ready .inside (c .before .before .before .rows .row) (omega arith))
+add-stop : tie.Need-add-stop Inv-each-block μ-each-block
+add-stop c = omega arith
 
-row-value-requires : tie.Need-row-value-requires Inv-rows μ-rows
-row-value-requires c κs =
-    let file = c .before .before .before .before .before .before .before .before .args .file .now in
-    let n = c .before .before .before .before .before .before .before .before .args .rows in
-    let N = c .before .before .before .before .before .before .before .before .pre .0 .0 in
-    let row = c .before .before .before .before .rows .row in
-    let W = evaluate-ready file n N (c .before .before .before .before .before .before .before .before .args .inputs .now) (c .before .before .before .before .before .before .before .before .args .base) (c .before .before .before .before .before .before .before .before .args .half) (c .before .before .before .before .before .before .before .before .args .work .now) (c .before .before .before .before .before .before .before .before .pre .0 .1) row (c .before .before .before .before .rows .work) (omega arith) (c .before .before .before .before .rows .inv .1 .1 .1) in (
-      (row-ready file n N row (omega arith), ap (byteAt file) (c .before .before .row-place .ensures)),
-      (
-        (input-there file n N (c .before .before .before .before .before .before .before .before .args .base) row (c .before .before .row-place .result) (omega arith) (c .before .before .row-place .ensures) (c .before .before .before .before .before .before .before .before .args .inputs .now) (c .before .before .before .before .rows .input) (c .before .before .before .before .rows .inv .1 .0) (c .before .before .before .before .before .before .before .before .pre .1 .1), c .before .before .before .before .before .before .before .before .pre .1 .0),
-        (omega (arith, W .rows-fit, W .halves-fit), W .binary),
-      ),
-    )
+evaluate-rows-requires : tie.Need-evaluate-rows-requires Inv-each-block μ-each-block
+evaluate-rows-requires c κs = let I = c .before .before .each-block .inv .1 in ((block-rows _ _ (c .before .before .before .before .before .before .pre .0 .0) _ _ _ _ _ _ (c .before .before .before .before .before .before .pre .0 .1) _ _ _ _ I _ (omega arith) (omega arith) (omega (arith, I .starts)), block-halves _ _ (c .before .before .before .before .before .before .pre .0 .0) _ _ _ _ _ _ (c .before .before .before .before .before .before .pre .0 .1) _ _ _ _ I), (c .before .before .before .before .before .before .pre .1 .0, (c .before .before .before .before .before .before .pre .1 .1, I .used-is)))
 
-one-if-requires : tie.Need-one-if-requires Inv-rows μ-rows
-one-if-requires c κs = tt
+add-first : tie.Need-add-first Inv-each-block μ-each-block
+add-first c = omega (arith, block-place _ _ (c .before .before .before .before .before .before .before .before .before .pre .0 .0) _ _ _ _ _ _ (c .before .before .before .before .before .before .before .before .before .pre .0 .1) _ _ _ _ (c .before .before .before .before .before .each-block .inv .1) (omega arith))
 
-slice-write-work : tie.Need-slice-write-work Inv-rows μ-rows
-slice-write-work c = omega (arith, c .before .before .before .before .before .before .before .before .before .before .pre .0 .1 .rows-fit, c .before .before .before .before .before .before .before .before .before .before .pre .0 .1 .halves-fit)
+each-block-less : tie.Need-each-block-less Inv-each-block μ-each-block
+each-block-less c = omega arith
 
-add-input : tie.Need-add-input Inv-rows μ-rows
-add-input c = omega (arith, input-fits (c .before .before .before .before .before .before .before .before .before .before .args .file .now) (c .before .before .before .before .before .before .before .before .before .before .args .rows) (c .before .before .before .before .before .before .before .before .before .before .pre .0 .0) (c .before .before .before .before .before .before .before .before .before .before .args .base) (c .before .before .before .before .before .before .rows .row) (c .before .before .before .before .row-place .result) (omega arith) (c .before .before .before .before .row-place .ensures) (c .before .before .before .before .before .before .before .before .before .before .args .inputs .now) (c .before .before .before .before .before .before .rows .input) (c .before .before .before .before .before .before .rows .inv .1 .0) (c .before .before .before .before .before .before .before .before .before .before .pre .1 .1) (c .one-if .result) (c .one-if .ensures .0))
+each-block-again : tie.Need-each-block-again Inv-each-block μ-each-block
+each-block-again c = let I = c .before .before .before .before .before .each-block .inv .1 in (omega (arith, I .starts), blocks-more _ _ (c .before .before .before .before .before .before .before .before .before .pre .0 .0) _ _ _ _ _ _ (c .before .before .before .before .before .before .before .before .before .pre .0 .1) _ _ _ _ I _ _ (c .before .before .evaluate-rows .kept .1 .1 .1 .1 .1 .1 .1 .0) (c .before .before .evaluate-rows .ensures .0) (c .before .before .evaluate-rows .ensures .1 (c .before .before .before .before .before .before .before .before .before .args .work .now)))
 
-add-row : tie.Need-add-row Inv-rows μ-rows
-add-row c = omega arith
+evaluate-rows-requires-2 : tie.Need-evaluate-rows-requires-2 Inv-each-block μ-each-block
+evaluate-rows-requires-2 c κs = let I = c .before .before .each-block .inv .1 in ((block-rows _ _ (c .before .before .before .before .before .before .pre .0 .0) _ _ _ _ _ _ (c .before .before .before .before .before .before .pre .0 .1) _ _ _ _ I _ (omega arith) (omega arith) (omega arith), block-halves _ _ (c .before .before .before .before .before .before .pre .0 .0) _ _ _ _ _ _ (c .before .before .before .before .before .before .pre .0 .1) _ _ _ _ I), (c .before .before .before .before .before .before .pre .1 .0, (c .before .before .before .before .before .before .pre .1 .1, I .used-is)))
 
-rows-less : tie.Need-rows-less Inv-rows μ-rows
-rows-less c = omega arith
+same-length : tie.Need-same-length Inv-each-block μ-each-block
+same-length c = c .before .before .evaluate-rows2 .kept .1 .1 .1 .1 .1 .1 .1 .0 ∙ c .before .before .before .before .before .each-block .inv .1 .room
 
-rows-again : tie.Need-rows-again Inv-rows μ-rows
-rows-again c =
-    let file = c .before .before .before .before .before .before .before .before .before .before .args .file .now in
-    let n = c .before .before .before .before .before .before .before .before .before .before .args .rows in
-    let N = c .before .before .before .before .before .before .before .before .before .before .pre .0 .0 in
-    let row = c .before .before .before .before .before .before .rows .row in (
-      omega arith,
-      (
-        input-next file n N (c .before .before .before .before .before .before .before .before .before .before .args .base) row (c .before .before .before .before .row-place .result) (omega arith) (c .before .before .before .before .row-place .ensures) (c .before .before .before .before .before .before .before .before .before .before .args .inputs .now) (c .before .before .before .before .before .before .rows .input) (c .before .before .before .before .before .before .rows .inv .1 .0) (c .before .before .before .before .before .before .before .before .before .before .pre .1 .1) (c .one-if .result) (c .one-if .ensures .0),
-        (
-          simp length-set (c .before .before .before .before .before .before .rows .inv .1 .1 .0),
-          evaluate-more file n N (c .before .before .before .before .before .before .before .before .before .before .args .inputs .now) (c .before .before .before .before .before .before .before .before .before .before .args .base) (c .before .before .before .before .before .before .before .before .before .before .args .half) (c .before .before .before .before .before .before .before .before .before .before .args .work .now) (c .before .before .before .before .before .before .before .before .before .before .pre .0 .1) row (c .before .before .before .before .before .before .rows .work) (omega arith) (c .before .before .before .before .before .before .rows .inv .1 .1 .1) (c .before .before .before .before .before .before .rows .input) (c .before .row-value .result) (c .before .before .before .before .before .before .rows .inv .1 .0) (c .before .row-value .ensures),
-        ),
-      ),
-    )
-
-same-length : tie.Need-same-length Inv-rows μ-rows
-same-length c = c .before .rows .inv .1 .1 .0
-
-returns : tie.Need-returns Inv-rows μ-rows
-returns c = evaluate-all (c .before .before .before .before .before .args .file .now) (c .before .before .before .before .before .args .rows) (c .before .before .before .before .before .pre .0 .0) (c .before .before .before .before .before .args .inputs .now) (c .before .before .before .before .before .args .base) (c .before .before .before .before .before .args .half) (c .before .before .before .before .before .args .work .now) (c .before .before .before .before .before .pre .0 .1) (c .before .rows .row) (c .before .rows .work) (omega arith) (c .before .rows .inv .1 .1 .1)
+returns : tie.Need-returns Inv-each-block μ-each-block
+returns c = blocks-all _ _ (c .before .before .before .before .before .before .before .before .before .pre .0 .0) _ _ _ _ _ _ (c .before .before .before .before .before .before .before .before .before .pre .0 .1) _ _ _ _ (c .before .before .before .before .before .each-block .inv .1) _ (c .before .before .evaluate-rows2 .ensures .1 (c .before .before .before .before .before .before .before .before .before .args .work .now))
 
 pub evaluate-spec : {M : Type 1} → statement M
 evaluate-spec =
     tie.close
     (tie.spec
-    Inv-rows
-    μ-rows
-    rows-holds
-    row-place-requires
-    shared-slice-read-kind
-    row-value-requires
-    one-if-requires
-    slice-write-work
-    add-input
-    add-row
-    rows-less
-    rows-again
+    Inv-each-block
+    μ-each-block
+    sub-whole
+    each-block-holds
+    add-stop
+    evaluate-rows-requires
+    add-first
+    each-block-less
+    each-block-again
+    evaluate-rows-requires-2
     same-length
     returns)

@@ -5,9 +5,6 @@ use borrow.Author.Needs.{needs}
 use Rattle.simulate.proofs.row_value.Statement.{statement}
 use Rattle.simulate.proofs.row_value.Tie as tie
 
-row-place-requires : tie.Need-row-place-requires
-row-place-requires c κs = search needs
-
 add-at-a : tie.Need-add-at-a
 add-at-a c = search needs
 
@@ -17,14 +14,11 @@ add-at-b c = search needs
 add-at-c : tie.Need-add-at-c
 add-at-c c = search needs
 
-add-held : tie.Need-add-held
-add-held c = search needs
-
 shared-slice-read-result : tie.Need-shared-slice-read-result
-shared-slice-read-result c = c .before .before .before .before .before .before .pre .1 .0 .0 (search needs)
+shared-slice-read-result c = c .before .before .before .before .before .pre .1 .0 .0 (search needs)
 
-shared-slice-read-result-2 : tie.Need-shared-slice-read-result-2
-shared-slice-read-result-2 c = search needs
+held-value-requires : tie.Need-held-value-requires
+held-value-requires c κs = search needs
 
 field-value-requires : tie.Need-field-value-requires
 field-value-requires c κs = search (and-names-a, needs)
@@ -87,13 +81,11 @@ pub row-value-spec : {M : Type 1} → statement M
 row-value-spec =
     tie.close
     (tie.spec
-    row-place-requires
     add-at-a
     add-at-b
     add-at-c
-    add-held
     shared-slice-read-result
-    shared-slice-read-result-2
+    held-value-requires
     field-value-requires
     field-value-requires-2
     and-of-requires

@@ -1,4 +1,4 @@
--- `run_steps` meets its contract. The loop's invariant: after `done` steps work has the run's state, the result the bytes that the outputs have shown, and `base` and `to` say where the next step's bytes stand. The measure is the number of steps left.
+-- `run_steps` meets its contract. The loop's invariant: after `done` steps work has the run's state from `previous` on, the result the bytes that the outputs have shown, and `base` and `to` say where the next step's bytes stand. The measure is the number of steps left.
 -- Assumes nothing.
 use Prim.Native.Nat.{ℕ, _-_, _*_, _≤_}
 use mathlib.Core.Path.{_≡_, refl, sym, _∙_, subst}
@@ -10,34 +10,28 @@ use Rattle.simulate.proofs.run_steps.Statement.{statement}
 use Rattle.simulate.proofs.run_steps.Tie as tie
 
 abbrev Inv-steps : tie.InvT-steps
-Inv-steps file rows nodes inputs-a-step steps choices inputs result₀ work₀ half outputs base₀ to₀ done₀ result work base to done =
-    (done ≤ steps) × ((base ≡ done * inputs-a-step) × ((to ≡ done * outputs) × ((length result ≡ length result₀) × ((length work ≡ length work₀) × Running file choices inputs rows half done work result₀ result))))
+Inv-steps file rows nodes inputs-a-step steps choices inputs result₀ work₀ half outputs base₀ to₀ current₀ previous₀ done₀ result work base to current previous done = (done ≤ steps) × ((base ≡ done * inputs-a-step) × ((to ≡ done * outputs) × ((length result ≡ length result₀) × ((length work ≡ length work₀) × Running file choices inputs rows current previous done work result₀ result))))
 
 abbrev μ-steps : tie.MeasureT-steps
-μ-steps file rows nodes inputs-a-step steps choices inputs result₀ work₀ half outputs base₀ to₀ done₀ result work base to done =
-    steps - done
+μ-steps file rows nodes inputs-a-step steps choices inputs result₀ work₀ half outputs base₀ to₀ current₀ previous₀ done₀ result work base to current previous done = steps - done
 
 sub-outputs : tie.Need-sub-outputs Inv-steps μ-steps
-sub-outputs c = omega (arith, nodes-most (c .before .before .before .before .before .args .file .now) (c .before .before .before .before .before .args .rows) (c .before .before .before .before .before .pre .netlist), c .before .before .before .before .before .pre .nodes-are)
+sub-outputs c = omega (arith, nodes-most _ _ (c .before .before .before .before .before .pre .netlist), c .before .before .before .before .before .pre .nodes-are)
 
 start-requires : tie.Need-start-requires Inv-steps μ-steps
 start-requires c κs = ((c .before .before .before .before .before .before .pre .netlist, c .before .before .before .before .before .before .pre .work-ready), (c .before .before .before .before .before .before .pre .choice-values, omega (arith, c .before .before .before .before .before .before .pre .choice-count)))
 
 steps-holds : tie.Need-steps-holds Inv-steps μ-steps
-steps-holds c = (omega arith, (sym (zero-mul (c .before .before .before .before .before .before .before .before .before .args .inputs-a-step)), (sym (zero-mul (c .before .before .before .before .before .before .before .before .before .args .rows - c .before .before .before .before .before .before .before .before .before .args .nodes)), (refl, (refl, run-none (c .before .before .before .before .before .before .before .before .before .args .file .now) (c .before .before .before .before .before .before .before .before .before .args .rows) (c .before .before .before .before .before .before .before .before .before .pre .netlist) (c .before .before .before .before .before .before .before .before .before .args .choices .now) (c .before .before .before .before .before .before .before .before .before .args .inputs .now) (c .before .before .before .before .before .before .before .before .before .args .half) (c .before .before .before .before .before .before .before .before .before .args .work .now) (c .before .before .start .last .1 .1 .1 .0) (c .before .before .before .before .before .before .before .before .before .args .result .now) (c .before .before .before .before .before .before .before .before .before .pre .work-ready) (c .before .before .start .ensures))))))
+steps-holds c = (omega arith, (sym (zero-mul (c .before .before .before .before .before .before .before .before .before .args .inputs-a-step)), (sym (zero-mul (c .before .before .before .before .before .before .before .before .before .args .rows - c .before .before .before .before .before .before .before .before .before .args .nodes)), (refl, (refl, run-none _ _ (c .before .before .before .before .before .before .before .before .before .pre .netlist) _ _ _ _ _ _ (c .before .before .before .before .before .before .before .before .before .pre .work-ready) (c .before .before .start .ensures))))))
 
 step-requires : tie.Need-step-requires Inv-steps μ-steps
-step-requires c κs =
-    let P = c .before .before .before .before .before .before .before .before .before .before .before .before .before .pre in
-    let I = c .before .before .before .steps .inv in
-    let fits = given-fits (c .before .before .before .before .before .before .before .before .before .before .before .before .before .args .file .now) (c .before .before .before .before .before .before .before .before .before .before .before .before .before .args .rows) (c .before .before .before .before .before .before .before .before .before .before .before .before .before .args .nodes) (c .before .before .before .before .before .before .before .before .before .before .before .before .before .args .inputs-a-step) (c .before .before .before .before .before .before .before .before .before .before .before .before .before .args .steps) (c .before .before .before .before .before .before .before .before .before .before .before .before .before .args .choices .now) (c .before .before .before .before .before .before .before .before .before .before .before .before .before .args .inputs .now) (length (c .before .before .before .before .before .before .before .before .before .before .before .before .before .args .result .now)) (c .before .before .before .before .before .before .before .before .before .before .before .before .before .args .work .now) (c .before .before .before .before .before .before .before .before .before .before .before .before .before .args .half) P (c .before .before .before .steps .done) (c .before .before .before .steps .base) (c .before .before .before .steps .to) (omega arith) (I .1 .0) (I .1 .1 .0) in
-    ((P .netlist, I .1 .1 .1 .1 .1 .work), ((P .input-values, omega (arith, fits .0, P .inputs-are)), (P .nodes-are, omega (arith, fits .1, I .1 .1 .1 .0))))
+step-requires c κs = let I = c .before .before .before .steps .inv in let fits = given-fits _ _ _ _ _ _ _ _ _ _ (c .before .before .before .before .before .before .before .before .before .before .before .before .before .pre) _ _ _ (omega arith) (I .1 .0) (I .1 .1 .0) in ((c .before .before .before .before .before .before .before .before .before .before .before .before .before .pre .netlist, I .1 .1 .1 .1 .1 .work), ((c .before .before .before .before .before .before .before .before .before .before .before .before .before .pre .input-values, omega (arith, fits .0, c .before .before .before .before .before .before .before .before .before .before .before .before .before .pre .inputs-are)), (c .before .before .before .before .before .before .before .before .before .before .before .before .before .pre .nodes-are, omega (arith, fits .1, I .1 .1 .1 .0))))
 
 add-base : tie.Need-add-base Inv-steps μ-steps
-add-base c = omega (arith, given-fits (c .before .before .before .before .before .before .before .before .before .before .before .before .before .before .before .before .before .before .args .file .now) (c .before .before .before .before .before .before .before .before .before .before .before .before .before .before .before .before .before .before .args .rows) (c .before .before .before .before .before .before .before .before .before .before .before .before .before .before .before .before .before .before .args .nodes) (c .before .before .before .before .before .before .before .before .before .before .before .before .before .before .before .before .before .before .args .inputs-a-step) (c .before .before .before .before .before .before .before .before .before .before .before .before .before .before .before .before .before .before .args .steps) (c .before .before .before .before .before .before .before .before .before .before .before .before .before .before .before .before .before .before .args .choices .now) (c .before .before .before .before .before .before .before .before .before .before .before .before .before .before .before .before .before .before .args .inputs .now) (length (c .before .before .before .before .before .before .before .before .before .before .before .before .before .before .before .before .before .before .args .result .now)) (c .before .before .before .before .before .before .before .before .before .before .before .before .before .before .before .before .before .before .args .work .now) (c .before .before .before .before .before .before .before .before .before .before .before .before .before .before .before .before .before .before .args .half) (c .before .before .before .before .before .before .before .before .before .before .before .before .before .before .before .before .before .before .pre) (c .before .before .before .before .before .before .before .before .steps .done) (c .before .before .before .before .before .before .before .before .steps .base) (c .before .before .before .before .before .before .before .before .steps .to) (omega arith) (c .before .before .before .before .before .before .before .before .steps .inv .1 .0) (c .before .before .before .before .before .before .before .before .steps .inv .1 .1 .0) .0)
+add-base c = omega (arith, given-fits _ _ _ _ _ _ _ _ _ _ (c .before .before .before .before .before .before .before .before .before .before .before .before .before .before .before .before .before .before .pre) _ _ _ (omega arith) (c .before .before .before .before .before .before .before .before .steps .inv .1 .0) (c .before .before .before .before .before .before .before .before .steps .inv .1 .1 .0) .0)
 
 add-to : tie.Need-add-to Inv-steps μ-steps
-add-to c = omega (arith, given-fits (c .before .before .before .before .before .before .before .before .before .before .before .before .before .before .before .before .before .before .args .file .now) (c .before .before .before .before .before .before .before .before .before .before .before .before .before .before .before .before .before .before .args .rows) (c .before .before .before .before .before .before .before .before .before .before .before .before .before .before .before .before .before .before .args .nodes) (c .before .before .before .before .before .before .before .before .before .before .before .before .before .before .before .before .before .before .args .inputs-a-step) (c .before .before .before .before .before .before .before .before .before .before .before .before .before .before .before .before .before .before .args .steps) (c .before .before .before .before .before .before .before .before .before .before .before .before .before .before .before .before .before .before .args .choices .now) (c .before .before .before .before .before .before .before .before .before .before .before .before .before .before .before .before .before .before .args .inputs .now) (length (c .before .before .before .before .before .before .before .before .before .before .before .before .before .before .before .before .before .before .args .result .now)) (c .before .before .before .before .before .before .before .before .before .before .before .before .before .before .before .before .before .before .args .work .now) (c .before .before .before .before .before .before .before .before .before .before .before .before .before .before .before .before .before .before .args .half) (c .before .before .before .before .before .before .before .before .before .before .before .before .before .before .before .before .before .before .pre) (c .before .before .before .before .before .before .before .before .steps .done) (c .before .before .before .before .before .before .before .before .steps .base) (c .before .before .before .before .before .before .before .before .steps .to) (omega arith) (c .before .before .before .before .before .before .before .before .steps .inv .1 .0) (c .before .before .before .before .before .before .before .before .steps .inv .1 .1 .0) .1)
+add-to c = omega (arith, given-fits _ _ _ _ _ _ _ _ _ _ (c .before .before .before .before .before .before .before .before .before .before .before .before .before .before .before .before .before .before .pre) _ _ _ (omega arith) (c .before .before .before .before .before .before .before .before .steps .inv .1 .0) (c .before .before .before .before .before .before .before .before .steps .inv .1 .1 .0) .1)
 
 add-done : tie.Need-add-done Inv-steps μ-steps
 add-done c = omega arith
@@ -46,23 +40,7 @@ steps-less : tie.Need-steps-less Inv-steps μ-steps
 steps-less c = omega arith
 
 steps-again : tie.Need-steps-again Inv-steps μ-steps
-steps-again c =
-    let I = c .before .before .before .before .before .before .before .before .steps .inv in (
-      omega arith,
-      (
-        step-next (c .before .before .before .before .before .before .before .before .steps .done) (c .before .before .before .before .before .before .before .before .before .before .before .before .before .before .before .before .before .before .args .inputs-a-step) (c .before .before .before .before .before .before .before .before .steps .base) (I .1 .0),
-        (
-          step-next (c .before .before .before .before .before .before .before .before .steps .done) (c .before .before .before .before .before .before .before .before .before .before .before .before .before .before .before .before .before .before .args .rows - c .before .before .before .before .before .before .before .before .before .before .before .before .before .before .before .before .before .before .args .nodes) (c .before .before .before .before .before .before .before .before .steps .to) (I .1 .1 .0),
-          (
-            c .before .before .before .before .step .kept .1 .1 .1 .1 .1 .0 ∙ I .1 .1 .1 .0,
-            (
-              c .before .before .before .before .step .kept .1 .1 .1 .1 .1 .1 .1 .0 ∙ I .1 .1 .1 .1 .0,
-              run-more (c .before .before .before .before .before .before .before .before .before .before .before .before .before .before .before .before .before .before .args .file .now) (c .before .before .before .before .before .before .before .before .before .before .before .before .before .before .before .before .before .before .args .rows) (c .before .before .before .before .before .before .before .before .before .before .before .before .before .before .before .before .before .before .pre .netlist) (c .before .before .before .before .before .before .before .before .before .before .before .before .before .before .before .before .before .before .args .choices .now) (c .before .before .before .before .before .before .before .before .before .before .before .before .before .before .before .before .before .before .args .inputs .now) (c .before .before .before .before .before .before .before .before .before .before .before .before .before .before .before .before .before .before .args .half) (c .before .before .before .before .before .before .before .before .steps .done) (c .before .before .before .before .before .before .before .before .before .before .before .before .before .before .before .before .before .before .args .inputs-a-step) (c .before .before .before .before .before .before .before .before .steps .base) (c .before .before .before .before .before .before .before .before .steps .to) (c .before .before .before .before .before .before .before .before .before .before .before .before .before .before .before .before .before .before .args .rows - c .before .before .before .before .before .before .before .before .before .before .before .before .before .before .before .before .before .before .args .nodes) (c .before .before .before .before .before .before .before .before .steps .work) (c .before .before .before .before .step .last .1 .1 .1 .1 .1 .1 .1 .0) (c .before .before .before .before .before .before .before .before .before .before .before .before .before .before .before .before .before .before .args .result .now) (c .before .before .before .before .before .before .before .before .steps .result) (c .before .before .before .before .step .last .1 .1 .1 .1 .1 .0) (c .before .before .before .before .before .before .before .before .before .before .before .before .before .before .before .before .before .before .pre .inputs-are) (I .1 .0) (outputs-are (c .before .before .before .before .before .before .before .before .before .before .before .before .before .before .before .before .before .before .args .file .now) (c .before .before .before .before .before .before .before .before .before .before .before .before .before .before .before .before .before .before .args .rows) (c .before .before .before .before .before .before .before .before .before .before .before .before .before .before .before .before .before .before .pre .netlist) (c .before .before .before .before .before .before .before .before .before .before .before .before .before .before .before .before .before .before .args .nodes) (c .before .before .before .before .before .before .before .before .before .before .before .before .before .before .before .before .before .before .pre .nodes-are)) (I .1 .1 .0) (c .before .before .before .before .step .kept .1 .1 .1 .1 .1 .1 .1 .0) (I .1 .1 .1 .1 .1) (c .before .before .before .before .step .ensures),
-            ),
-          ),
-        ),
-      ),
-    )
+steps-again c = let I = c .before .before .before .before .before .before .before .before .steps .inv in (omega arith, (step-next _ _ _ (I .1 .0), (step-next _ _ _ (I .1 .1 .0), (c .before .before .before .before .step .kept .1 .1 .1 .1 .1 .0 ∙ I .1 .1 .1 .0, (c .before .before .before .before .step .kept .1 .1 .1 .1 .1 .1 .1 .0 ∙ I .1 .1 .1 .1 .0, run-more _ _ (c .before .before .before .before .before .before .before .before .before .before .before .before .before .before .before .before .before .before .pre .netlist) _ _ _ _ _ _ _ _ _ _ _ _ _ _ (c .before .before .before .before .before .before .before .before .before .before .before .before .before .before .before .before .before .before .pre .inputs-are) (I .1 .0) (outputs-are _ _ (c .before .before .before .before .before .before .before .before .before .before .before .before .before .before .before .before .before .before .pre .netlist) _ (c .before .before .before .before .before .before .before .before .before .before .before .before .before .before .before .before .before .before .pre .nodes-are)) (I .1 .1 .0) (I .1 .1 .1 .1 .1) (c .before .before .before .before .step .ensures))))))
 
 same-length : tie.Need-same-length Inv-steps μ-steps
 same-length c = c .before .steps .inv .1 .1 .1 .0
@@ -71,10 +49,7 @@ same-length-2 : tie.Need-same-length-2 Inv-steps μ-steps
 same-length-2 c = c .before .steps .inv .1 .1 .1 .1 .0 ∙ c .before .before .before .before .start .kept .1 .1 .1 .0
 
 returns : tie.Need-returns Inv-steps μ-steps
-returns c =
-    let e : c .before .steps .done ≡ c .before .before .before .before .before .before .before .before .before .before .before .args .steps = omega arith in
-    run-end (c .before .before .before .before .before .before .before .before .before .before .before .args .file .now) (c .before .before .before .before .before .before .before .before .before .before .before .args .rows) (c .before .before .before .before .before .before .before .before .before .before .before .pre .netlist) (c .before .before .before .before .before .before .before .before .before .before .before .args .choices .now) (c .before .before .before .before .before .before .before .before .before .before .before .args .inputs .now) (c .before .before .before .before .before .before .before .before .before .before .before .args .half) (c .before .before .before .before .before .before .before .before .before .before .before .args .steps) (c .before .steps .work) (c .before .before .before .before .before .before .before .before .before .before .before .args .result .now) (c .before .steps .result) (c .before .before .before .before .before .before .before .before .before .before .before .pre .result-holds)
-    (subst (λ (t : ℕ). Running (c .before .before .before .before .before .before .before .before .before .before .before .args .file .now) (c .before .before .before .before .before .before .before .before .before .before .before .args .choices .now) (c .before .before .before .before .before .before .before .before .before .before .before .args .inputs .now) (c .before .before .before .before .before .before .before .before .before .before .before .args .rows) (c .before .before .before .before .before .before .before .before .before .before .before .args .half) t (c .before .steps .work) (c .before .before .before .before .before .before .before .before .before .before .before .args .result .now) (c .before .steps .result)) e (c .before .steps .inv .1 .1 .1 .1 .1))
+returns c = let e : c .before .steps .done ≡ c .before .before .before .before .before .before .before .before .before .before .before .args .steps = omega arith in run-end _ _ (c .before .before .before .before .before .before .before .before .before .before .before .pre .netlist) _ _ _ _ _ _ _ _ (c .before .before .before .before .before .before .before .before .before .before .before .pre .result-holds) (subst (λ (t : ℕ). Running (c .before .before .before .before .before .before .before .before .before .before .before .args .file .now) (c .before .before .before .before .before .before .before .before .before .before .before .args .choices .now) (c .before .before .before .before .before .before .before .before .before .before .before .args .inputs .now) (c .before .before .before .before .before .before .before .before .before .before .before .args .rows) (c .before .steps .current) (c .before .steps .previous) t (c .before .steps .work) (c .before .before .before .before .before .before .before .before .before .before .before .args .result .now) (c .before .steps .result)) e (c .before .steps .inv .1 .1 .1 .1 .1))
 
 pub run-steps-spec : {M : Type 1} → statement M
 run-steps-spec =
