@@ -13,6 +13,15 @@ pub mod blocks;
 pub mod count;
 pub mod writer;
 
+// The file: where its first row stands, and the sizes of a row and of a block.
+pub const FIRST_ROW: usize = 4;
+
+pub const ROW_BYTES: usize = 8;
+
+pub const BLOCK_ROWS: usize = 63;
+
+pub const BLOCK_BYTES: usize = 512;
+
 pub fn both(x: bool, y: bool) -> bool
     ensures { λ r. ⌜ r ≡ x && y ⌝ }
 {

@@ -14,6 +14,10 @@ ghost use Rattle.netlist.specs.Rows.{isRegister};
 ghost use Rattle.netlist.specs.FileFormat.{rowOffset, netlistOf};
 ghost use Rattle.lasso_finder.specs.StateMap.{AnalysisReady, statePlace, valuePlace, nextPlace, codeAt, stateBytes, Packed, registersBefore, Coded, literalIn, RowReady, rowIn, AtRow, InBlock, BlockStop, Evaluated, Started, shownCodes, NextReady, Searched};
 ghost use Rattle.lasso_finder.specs.WorkMap.{knownPlace};
+use blockfile::BLOCK_BYTES;
+use blockfile::BLOCK_ROWS;
+use blockfile::FIRST_ROW;
+use blockfile::ROW_BYTES;
 
 // The lent memory: the states, the rows' values, and the registers' next-value literals, where later stands what is known of the rows.
 pub const HISTORY: usize = 16384;
@@ -21,15 +25,6 @@ pub const HISTORY: usize = 16384;
 pub const VALUES: usize = 32768;
 
 const NEXTS: usize = 33840;
-
-// The file: where its first row stands, and the sizes of a row and of a block.
-const FIRST_ROW: usize = 4;
-
-const ROW_BYTES: usize = 8;
-
-const BLOCK_ROWS: usize = 63;
-
-const BLOCK_BYTES: usize = 512;
 
 // The byte at which state t starts: 64 for each state before it, and before state 256 the rows' values.
 pub fn state_place(t: usize) -> usize

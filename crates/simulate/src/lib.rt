@@ -16,15 +16,10 @@ ghost use Rattle.netlist.specs.RunLayout.{placeAmong, runBytes};
 ghost use Rattle.netlist.proofs.WellFormed.{NextBelow};
 ghost use Rattle.simulate.specs.Values.{IsBinary, bit, bitAt, bitFrom, bitByte, bitBytes, heldIn, stateFrom, resetChoices, valuesBefore, valuesFrom};
 ghost use Rattle.simulate.specs.Steps.{RowReady, NetlistReady, WorkReady, TwoHalves, BlockRows, Given, Stepped};
-
-// The file: where its first row stands, and the sizes of a row and of a block.
-const FIRST_ROW: usize = 4;
-
-const ROW_BYTES: usize = 8;
-
-const BLOCK_ROWS: usize = 63;
-
-const BLOCK_BYTES: usize = 512;
+use blockfile::BLOCK_BYTES;
+use blockfile::BLOCK_ROWS;
+use blockfile::FIRST_ROW;
+use blockfile::ROW_BYTES;
 
 // The value of the literal among those from byte `from` on: its node's, changed if the literal is odd.
 fn literal_value(work: &[u8], from: usize, literal: usize) -> u8
