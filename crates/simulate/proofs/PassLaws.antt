@@ -1,6 +1,6 @@
 -- The passes over the rows: what each asks of a row and leaves after one row more.
 -- Assumes nothing.
-use Prim.Native.Nat.{ℕ, zero, suc, _+_, _-_, _<_, _≤_, _/_}
+use Prim.Native.Nat.{ℕ, _+_, _-_, _<_, _≤_, _/_}
 use mathlib.Core.Path.{_≡_, refl, sym, ap, _∙_}
 use mathlib.Core.Bool.{Bool, true, false, cond}
 use mathlib.Core.Logic.{inl, inr, ⊎-elim}
@@ -23,7 +23,7 @@ use Rattle.netlist.proofs.SimulationLaws.{literal-cong, row-cong, values-length
 use Rattle.blockfile.proofs.CountLaws.{count-next, count-some-le, count-place}
 use Rattle.simulate.specs.Values.{IsBinary, bit, bitAt, bitFrom, bitByte, bitBytes, heldIn, stateFrom, stepInputs, resetChoices, valuesBefore, valuesFrom}
 use Rattle.simulate.specs.Steps.{RowReady, NetlistReady, WorkReady, TwoHalves}
-use Rattle.simulate.proofs.BitLaws.{bytes-at, bits-at, binary-bytes, binary-set, binary-sets}
+use Rattle.simulate.proofs.BitLaws.{bytes-at, bits-at, binary-set, binary-sets}
 use Rattle.simulate.proofs.WriteLaws.{write-before, write-inside, write-after, put-last, put-next}
 use Rattle.simulate.proofs.PlaceLaws.{input-place, register-place}
 use Rattle.simulate.proofs.RowValueLaws.{input-is}

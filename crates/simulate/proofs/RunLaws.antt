@@ -23,7 +23,7 @@ use Rattle.netlist.specs.RunLayout.{valuesFromBytes, stepBytes, runBytes}
 use Rattle.netlist.proofs.RowLaws.{output-is}
 use Rattle.netlist.proofs.SimulationLaws.{values-length}
 use Rattle.blockfile.proofs.CountLaws.{count-next}
-use Rattle.simulate.specs.Values.{bit, bitFrom, bitByte, bitBytes, stateIn, heldIn, stateFrom, stepInputs, resetChoices, valuesFrom, shownBytes}
+use Rattle.simulate.specs.Values.{bit, bitFrom, bitByte, bitBytes, heldIn, stateFrom, stepInputs, resetChoices, valuesFrom, shownBytes}
 use Rattle.simulate.specs.Steps.{NetlistReady, WorkReady, TwoHalves, Given, Stepped}
 use Rattle.simulate.proofs.BitLaws.{bit-byte, bytes-at, bits-at, binary-bytes}
 use Rattle.simulate.proofs.WriteLaws.{write-inside, write-front}
@@ -116,15 +116,15 @@ module _ (f : List ℕ) (n : ℕ) (N : NetlistReady f n) where
   -- ---- states
 
   module _ (half : ℕ) (v w : List ℕ) (W : WorkReady n half v) where
-    -- The state that was written.
-    pub state-written : (ss : List Bool) → length ss ≡ length (netlistOf f) → w ≡ sets v half (bitBytes ss) → stateIn w half (length (netlistOf f)) ≡ ss
+    -- The state that was written for the initial step.
+    pub state-written : (ss : List Bool) → length ss ≡ length (netlistOf f) → w ≡ sets v half (bitBytes ss) → stateFrom (netlistOf f) w half true ≡ ss
     state-written ss e ew =
         let m = length (netlistOf f) in
         let k = length-map ss bitByte in
         let fits : half + length (bitBytes ss) ≤ length v = omega (arith, N .ready .count, W .rows-fit, W .halves-fit) in
-        ext-getD false (stateIn w half m) ss (tabulate-length m (λ j. bitFrom w half j) ∙ sym e) (λ j l.
-        let b : j < m = omega (arith, l, tabulate-length m (λ (j : ℕ). bitFrom w half j)) in
-        tabulate-at m (λ j. bitFrom w half j) j false b
+        ext-getD false (tabulate m (bitFrom w half)) ss (tabulate-length m (bitFrom w half) ∙ sym e) (λ j l.
+        let b : j < m = omega (arith, l, tabulate-length m (bitFrom w half)) in
+        tabulate-at m (bitFrom w half) j false b
         ∙ ap bit (ap (λ (l : List ℕ). byteAt l (half + j)) ew ∙ write-inside v (bitBytes ss) half fits j (omega arith))
         ∙ bits-at ss j)
 

@@ -17,13 +17,9 @@ use Rattle.netlist.specs.RunLayout.{placeAmong}
 use Rattle.netlist.proofs.WellFormed.{NextBelow}
 use Rattle.blockfile.proofs.CountLaws.{count-some-le}
 use Rattle.simulate.specs.Values.{IsBinary, bitAt, bitFrom, bitByte, bitBytes, heldIn, stateFrom, valuesBefore, valuesFrom}
-use Rattle.simulate.specs.Steps.{RowReady, NetlistReady, TwoHalves, BlockRows}
+use Rattle.simulate.specs.Steps.{RowReady, NetlistReady, TwoHalves, BlockRows, ValuesStand}
 use Rattle.simulate.proofs.BitLaws.{byte-most, binary-bytes}
 use Rattle.simulate.proofs.PassLaws.{row-ready, next-below, input-there, input-next, input-fits, halves-set, halves-written, evaluate-none, evaluate-more, evaluate-all}
-
--- Memory w has the values of the first i rows in the step that begins with memory v.
-abbrev pub ValuesStand : List ℕ → List ℕ → ℕ → ℕ → ℕ → Bool → List ℕ → ℕ → List ℕ → Type 0
-ValuesStand f inputs base current previous initial v i w = w ≡ sets v current (bitBytes (valuesBefore (netlistOf f) inputs base (stateFrom (netlistOf f) v previous initial) i))
 
 -- The walk over a block's rows from row `start` on, which stands at `first`, has come to `row`: memory was w₀ and is w.
 pub record Walked (f inputs : List ℕ) (base current previous : ℕ) (initial : Bool) (start first : ℕ) (w₀ w : List ℕ) (row place used : ℕ) : Type 0 where
@@ -34,11 +30,11 @@ pub record Walked (f inputs : List ℕ) (base current previous : ℕ) (initial :
   pub halves : TwoHalves (length (netlistOf f)) current previous w
   pub values : (v : List ℕ) → ValuesStand f inputs base current previous initial v start w₀ → ValuesStand f inputs base current previous initial v row w
 
-module _ (f inputs : List ℕ) (base current previous : ℕ) (initial : Bool) (start stop first : ℕ) (w₀ : List ℕ) (B : BlockRows f start stop first) where
-  pub walk-none : (before : ℕ) → before ≡ placeAmong isInput (netlistOf f) start → TwoHalves (length (netlistOf f)) current previous w₀ → Walked f inputs base current previous initial start first w₀ w₀ start first before
-  walk-none before e H = record { from = omega arith; place-is = omega arith; used-is = e; room = refl; halves = H; values = λ v h. h }
+module _ {f inputs : List ℕ} {base current previous : ℕ} {initial : Bool} {start stop first : ℕ} {w₀ : List ℕ} (B : BlockRows f start stop first) where
+  pub walk-none : {before : ℕ} → before ≡ placeAmong isInput (netlistOf f) start → TwoHalves (length (netlistOf f)) current previous w₀ → Walked f inputs base current previous initial start first w₀ w₀ start first before
+  walk-none e H = record { from = omega arith; place-is = omega arith; used-is = e; room = refl; halves = H; values = λ v h. h }
 
-  module _ (fit : base + countIf isInput (netlistOf f) ≤ length inputs) (w : List ℕ) (row place used : ℕ) (U : Walked f inputs base current previous initial start first w₀ w row place used) where
+  module _ (fit : base + countIf isInput (netlistOf f) ≤ length inputs) {w : List ℕ} {row place used : ℕ} (U : Walked f inputs base current previous initial start first w₀ w row place used) where
     -- The step's inputs up to the row are there.
     pub walk-inputs : base + used ≤ length inputs
     walk-inputs = omega (arith, U .used-is, count-some-le isInput constant (netlistOf f) row .1)
@@ -77,13 +73,13 @@ module _ (f inputs : List ℕ) (base current previous : ℕ) (initial : Bool) (s
       walk-target = omega (arith, in-netlist, U .halves .current-fits)
 
       -- One row more.
-      module _ (o : ℕ) (eo : o ≡ cond (eqb (byteAt f place) 1) 1 0) where
+      module _ {o : ℕ} (eo : o ≡ cond (eqb (byteAt f place) 1) 1 0) where
         pub walk-used : base + (used + o) ≤ length inputs
         walk-used = input-fits f (length (netlistOf f)) (B .netlist) base row place in-netlist walk-place inputs used (U .used-is) fit o eo
 
-        pub walk-more : (x : ℕ) → x ≡ bitByte (rowValue boolLogic (heldIn w previous initial row (rowAt (netlistOf f) row)) (λ l p. bitAt inputs (base + used)) (bitFrom w current) (rowAt (netlistOf f) row))
+        pub walk-more : {x : ℕ} → x ≡ bitByte (rowValue boolLogic (heldIn w previous initial row (rowAt (netlistOf f) row)) (λ l p. bitAt inputs (base + used)) (bitFrom w current) (rowAt (netlistOf f) row))
             → Walked f inputs base current previous initial start first w₀ (set w (current + row) x) (row + 1) (place + 8) (used + o)
-        walk-more x ex =
+        walk-more {x} ex =
             let n = length (netlistOf f) in
             record {
               from = omega (arith, U .from);
@@ -95,9 +91,9 @@ module _ (f inputs : List ℕ) (base current previous : ℕ) (initial : Bool) (s
             }
 
   -- All rows of the block.
-  pub walk-all : (w : List ℕ) (row place used : ℕ) → row ≡ stop → Walked f inputs base current previous initial start first w₀ w row place used
+  pub walk-all : {w : List ℕ} {row place used : ℕ} → row ≡ stop → Walked f inputs base current previous initial start first w₀ w row place used
       → (used ≡ placeAmong isInput (netlistOf f) stop) × ((v : List ℕ) → ValuesStand f inputs base current previous initial v start w₀ → ValuesStand f inputs base current previous initial v stop w)
-  walk-all w row place used e U = (U .used-is ∙ ap (placeAmong isInput (netlistOf f)) e, λ v h. subst (λ (i : ℕ). ValuesStand f inputs base current previous initial v i w) e (U .values v h))
+  walk-all {w} e U = (U .used-is ∙ ap (placeAmong isInput (netlistOf f)) e, λ v h. subst (λ (i : ℕ). ValuesStand f inputs base current previous initial v i w) e (U .values v h))
 
 -- ---- block by block
 
@@ -109,14 +105,14 @@ pub record BlocksWalked (f inputs : List ℕ) (base current previous : ℕ) (ini
   pub room : length w ≡ length v
   pub values : ValuesStand f inputs base current previous initial v start w
 
-module _ (f : List ℕ) (n : ℕ) (N : NetlistReady f n) (inputs : List ℕ) (base current previous : ℕ) (initial : Bool) (v : List ℕ) (H : TwoHalves n current previous v) where
+module _ {f inputs : List ℕ} {n base current previous : ℕ} {initial : Bool} {v : List ℕ} (N : NetlistReady f n) (H : TwoHalves n current previous v) where
   pub blocks-none : BlocksWalked f inputs base current previous initial v v 0 4 0
   blocks-none = record { starts = omega arith; place = omega arith; used-is = refl; room = refl; values = evaluate-none f n N inputs base current previous initial v }
 
-  module _ (w : List ℕ) (start first used : ℕ) (U : BlocksWalked f inputs base current previous initial v w start first used) where
+  module _ {w : List ℕ} {start first used : ℕ} (U : BlocksWalked f inputs base current previous initial v w start first used) where
     -- The rows of the block, or of the rest.
-    pub block-rows : (stop : ℕ) → start ≤ stop → stop ≤ start + 63 → stop ≤ n → BlockRows f start stop first
-    block-rows stop a b c = record { netlist = subst (NetlistReady f) (N .ready .count) N; starts = U .starts; from = a; few = b; within = omega (arith, N .ready .count); place = U .place }
+    pub block-rows : {stop : ℕ} → start ≤ stop → stop ≤ start + 63 → stop ≤ n → BlockRows f start stop first
+    block-rows a b c = record { netlist = subst (NetlistReady f) (N .ready .count) N; starts = U .starts; from = a; few = b; within = omega (arith, N .ready .count); place = U .place }
 
     pub block-halves : TwoHalves (length (netlistOf f)) current previous w
     block-halves =
@@ -127,10 +123,10 @@ module _ (f : List ℕ) (n : ℕ) (N : NetlistReady f n) (inputs : List ℕ) (ba
     block-place h = omega (arith, U .place, N .ready .few)
 
     -- One block more.
-    pub blocks-more : (w′ : List ℕ) (more : ℕ) → length w′ ≡ length w → more ≡ placeAmong isInput (netlistOf f) (start + 63) → (ValuesStand f inputs base current previous initial v start w → ValuesStand f inputs base current previous initial v (start + 63) w′)
+    pub blocks-more : {w′ : List ℕ} {more : ℕ} → length w′ ≡ length w → more ≡ placeAmong isInput (netlistOf f) (start + 63) → (ValuesStand f inputs base current previous initial v start w → ValuesStand f inputs base current previous initial v (start + 63) w′)
         → BlocksWalked f inputs base current previous initial v w′ (start + 63) (first + 512) more
-    blocks-more w′ more e em put = record { starts = omega (arith, U .starts); place = omega (arith, U .starts, U .place); used-is = em; room = e ∙ U .room; values = put (U .values) }
+    blocks-more e em put = record { starts = omega (arith, U .starts); place = omega (arith, U .starts, U .place); used-is = em; room = e ∙ U .room; values = put (U .values) }
 
     -- The rest too.
-    pub blocks-all : (w′ : List ℕ) → (ValuesStand f inputs base current previous initial v start w → ValuesStand f inputs base current previous initial v n w′) → w′ ≡ sets v current (bitBytes (valuesFrom (netlistOf f) inputs base (stateFrom (netlistOf f) v previous initial)))
-    blocks-all w′ put = evaluate-all f n N inputs base current previous initial v w′ (put (U .values))
+    pub blocks-all : {w′ : List ℕ} → (ValuesStand f inputs base current previous initial v start w → ValuesStand f inputs base current previous initial v n w′) → w′ ≡ sets v current (bitBytes (valuesFrom (netlistOf f) inputs base (stateFrom (netlistOf f) v previous initial)))
+    blocks-all {w′} put = evaluate-all f n N inputs base current previous initial v w′ (put (U .values))

@@ -14,7 +14,7 @@ use Rattle.netlist.specs.FileFormat.{rowOffset, readFields, netlistOf}
 use Rattle.netlist.proofs.WellFormed.{OperandsBelow, ResetIn}
 use Rattle.questions.proofs.AcceptedFiles.{CheckedRows}
 use Rattle.blockfile.specs.Ready.{Ready}
-use Rattle.simulate.specs.Values.{IsBinary, bitBytes, shownBytes}
+use Rattle.simulate.specs.Values.{IsBinary, bitBytes, stateFrom, valuesBefore, shownBytes}
 
 -- Row i stands in the file, the operands of a gate and an output's literal name rows before it, and a register's reset is in range.
 pub record RowReady (f : List ℕ) (i : ℕ) : Type 0 where
@@ -50,6 +50,10 @@ pub record BlockRows (f : List ℕ) (start stop first : ℕ) : Type 0 where
   pub few : stop ≤ start + 63
   pub within : stop ≤ length (netlistOf f)
   pub place : first ≡ rowOffset start
+
+-- In the step that begins with memory v, memory w has the values of the first i rows from `current` on, and is else as v.
+abbrev pub ValuesStand : List ℕ → List ℕ → ℕ → ℕ → ℕ → Bool → List ℕ → ℕ → List ℕ → Type 0
+ValuesStand f inputs base current previous initial v i w = w ≡ sets v current (bitBytes (valuesBefore (netlistOf f) inputs base (stateFrom (netlistOf f) v previous initial) i))
 
 -- What a run of T steps is given.
 pub record Given (f : List ℕ) (n nodes ins T : ℕ) (choices inputs : List ℕ) (result : ℕ) (work : List ℕ) (half : ℕ) : Type 0 where

@@ -1,5 +1,5 @@
 -- Values in lent memory, a byte 0 or 1 each: a state, the inputs of a step, the choices.
--- Interface: IsBinary, bit, bitAt, bitFrom, bitByte, bitBytes, stateIn, heldIn, stateFrom, stepInputs, resetChoices, valuesBefore, valuesFrom, shownBytes.
+-- Interface: IsBinary, bit, bitAt, bitFrom, bitByte, bitBytes, heldIn, stateFrom, stepInputs, resetChoices, valuesBefore, valuesFrom, shownBytes.
 -- Assumes nothing.
 use Prim.Native.Nat.{ℕ, _+_, _≤_}
 use mathlib.Core.Bool.{Bool, cond, not}
@@ -23,7 +23,7 @@ bit n = not (eqb n 0)
 abbrev pub bitAt : List ℕ → ℕ → Bool
 bitAt s i = bit (byteAt s i)
 
--- The value of row i, whose rows' values stand from `from` on.
+-- The value of row i, where the rows' values stand from `from` on.
 abbrev pub bitFrom : List ℕ → ℕ → ℕ → Bool
 bitFrom s from i = bitAt s (from + i)
 
@@ -32,10 +32,6 @@ bitByte b = cond b 1 0
 
 abbrev pub bitBytes : List Bool → List ℕ
 bitBytes bs = map bitByte bs
-
--- The state of n rows whose bytes stand from `half` on.
-abbrev pub stateIn : List ℕ → ℕ → ℕ → List Bool
-stateIn work half n = tabulate n (bitFrom work half)
 
 -- What row i, which is r, holds as a register: in the initial step its byte from `previous` on, then what its literal showed in the last step, whose values stand there.
 abbrev pub heldIn : List ℕ → ℕ → Bool → ℕ → Row → Bool

@@ -1,6 +1,6 @@
 // Run's steps: the rows' values in a step, and what the outputs show of them.
-// Work has the rows' values twice. A step puts its own from byte `current` on and reads the last step's from byte `previous` on: a register
-// takes what its literal showed there, and in the initial step the value that stands there for its row. Then the two places change roles.
+// Work has room for the rows' values twice: a step puts its own from byte `current` on, and from byte `previous` on stand those of the last step, from which the registers take theirs.
+// The next step has the two places the other way round. In the initial step a register takes the byte that stands for its row from `previous` on.
 ghost use mathlib.Core.Path.{_≡_};
 ghost use mathlib.Core.Bool.{true, cond, not, _&&_};
 ghost use mathlib.Core.List.{List, _++_, map};
@@ -14,8 +14,8 @@ ghost use Rattle.netlist.specs.FileFormat.{rowOffset, netlistOf};
 ghost use Rattle.netlist.specs.Simulation.{boolLogic, boolXor, literalValue, rowValue, resetValue};
 ghost use Rattle.netlist.specs.RunLayout.{placeAmong, runBytes};
 ghost use Rattle.netlist.proofs.WellFormed.{NextBelow};
-ghost use Rattle.simulate.specs.Values.{IsBinary, bit, bitAt, bitFrom, bitByte, bitBytes, heldIn, stateFrom, resetChoices, valuesBefore, valuesFrom};
-ghost use Rattle.simulate.specs.Steps.{RowReady, NetlistReady, WorkReady, TwoHalves, BlockRows, Given, Stepped};
+ghost use Rattle.simulate.specs.Values.{IsBinary, bit, bitAt, bitFrom, bitByte, bitBytes, heldIn, stateFrom, resetChoices, valuesFrom};
+ghost use Rattle.simulate.specs.Steps.{RowReady, NetlistReady, WorkReady, TwoHalves, BlockRows, ValuesStand, Given, Stepped};
 use blockfile::BLOCK_BYTES;
 use blockfile::BLOCK_ROWS;
 use blockfile::FIRST_ROW;
@@ -147,7 +147,7 @@ fn evaluate_rows(
 ) -> usize
     requires { ⌜ BlockRows (now file) start stop first × TwoHalves (length (netlistOf (now file))) current previous (now work) ⌝ }
     requires { ⌜ IsBinary (now inputs) × ((base + countIf isInput (netlistOf (now file)) ≤ length (now inputs)) × (before ≡ placeAmong isInput (netlistOf (now file)) start)) ⌝ }
-    ensures { λ r. ⌜ (r ≡ placeAmong isInput (netlistOf (now (file .entry))) stop) × ((v : List ℕ) → now (work .entry) ≡ sets v current (bitBytes (valuesBefore (netlistOf (now (file .entry))) (now (inputs .entry)) base (stateFrom (netlistOf (now (file .entry))) v previous initial) start)) → now (work .exit) ≡ sets v current (bitBytes (valuesBefore (netlistOf (now (file .entry))) (now (inputs .entry)) base (stateFrom (netlistOf (now (file .entry))) v previous initial) stop))) ⌝ }
+    ensures { λ r. ⌜ (r ≡ placeAmong isInput (netlistOf (now (file .entry))) stop) × ((v : List ℕ) → ValuesStand (now (file .entry)) (now (inputs .entry)) base current previous initial v start (now (work .entry)) → ValuesStand (now (file .entry)) (now (inputs .entry)) base current previous initial v stop (now (work .exit))) ⌝ }
 {
     let mut row = start;
     let mut place = first;

@@ -17,31 +17,31 @@ sub-whole : tie.Need-sub-whole Inv-each-block μ-each-block
 sub-whole c = omega arith
 
 each-block-holds : tie.Need-each-block-holds Inv-each-block μ-each-block
-each-block-holds c = (omega arith, blocks-none _ _ (c .before .before .before .pre .0 .0) _ _ _ _ _ _ (c .before .before .before .pre .0 .1))
+each-block-holds c = (omega arith, blocks-none (c .before .before .before .pre .0 .0) (c .before .before .before .pre .0 .1))
 
 add-stop : tie.Need-add-stop Inv-each-block μ-each-block
 add-stop c = omega arith
 
 evaluate-rows-requires : tie.Need-evaluate-rows-requires Inv-each-block μ-each-block
-evaluate-rows-requires c κs = let I = c .before .before .each-block .inv .1 in ((block-rows _ _ (c .before .before .before .before .before .before .pre .0 .0) _ _ _ _ _ _ (c .before .before .before .before .before .before .pre .0 .1) _ _ _ _ I _ (omega arith) (omega arith) (omega (arith, I .starts)), block-halves _ _ (c .before .before .before .before .before .before .pre .0 .0) _ _ _ _ _ _ (c .before .before .before .before .before .before .pre .0 .1) _ _ _ _ I), (c .before .before .before .before .before .before .pre .1 .0, (c .before .before .before .before .before .before .pre .1 .1, I .used-is)))
+evaluate-rows-requires c κs = let I = c .before .before .each-block .inv .1 in ((block-rows (c .before .before .before .before .before .before .pre .0 .0) (c .before .before .before .before .before .before .pre .0 .1) I (omega arith) (omega arith) (omega (arith, I .starts)), block-halves (c .before .before .before .before .before .before .pre .0 .0) (c .before .before .before .before .before .before .pre .0 .1) I), (c .before .before .before .before .before .before .pre .1 .0, (c .before .before .before .before .before .before .pre .1 .1, I .used-is)))
 
 add-first : tie.Need-add-first Inv-each-block μ-each-block
-add-first c = omega (arith, block-place _ _ (c .before .before .before .before .before .before .before .before .before .pre .0 .0) _ _ _ _ _ _ (c .before .before .before .before .before .before .before .before .before .pre .0 .1) _ _ _ _ (c .before .before .before .before .before .each-block .inv .1) (omega arith))
+add-first c = omega (arith, block-place (c .before .before .before .before .before .before .before .before .before .pre .0 .0) (c .before .before .before .before .before .before .before .before .before .pre .0 .1) (c .before .before .before .before .before .each-block .inv .1) (omega arith))
 
 each-block-less : tie.Need-each-block-less Inv-each-block μ-each-block
 each-block-less c = omega arith
 
 each-block-again : tie.Need-each-block-again Inv-each-block μ-each-block
-each-block-again c = let I = c .before .before .before .before .before .each-block .inv .1 in (omega (arith, I .starts), blocks-more _ _ (c .before .before .before .before .before .before .before .before .before .pre .0 .0) _ _ _ _ _ _ (c .before .before .before .before .before .before .before .before .before .pre .0 .1) _ _ _ _ I _ _ (c .before .before .evaluate-rows .kept .1 .1 .1 .1 .1 .1 .1 .0) (c .before .before .evaluate-rows .ensures .0) (c .before .before .evaluate-rows .ensures .1 (c .before .before .before .before .before .before .before .before .before .args .work .now)))
+each-block-again c = let I = c .before .before .before .before .before .each-block .inv .1 in (omega (arith, I .starts), blocks-more (c .before .before .before .before .before .before .before .before .before .pre .0 .0) (c .before .before .before .before .before .before .before .before .before .pre .0 .1) I (c .before .before .evaluate-rows .kept .1 .1 .1 .1 .1 .1 .1 .0) (c .before .before .evaluate-rows .ensures .0) (c .before .before .evaluate-rows .ensures .1 (c .before .before .before .before .before .before .before .before .before .args .work .now)))
 
 evaluate-rows-requires-2 : tie.Need-evaluate-rows-requires-2 Inv-each-block μ-each-block
-evaluate-rows-requires-2 c κs = let I = c .before .before .each-block .inv .1 in ((block-rows _ _ (c .before .before .before .before .before .before .pre .0 .0) _ _ _ _ _ _ (c .before .before .before .before .before .before .pre .0 .1) _ _ _ _ I _ (omega arith) (omega arith) (omega arith), block-halves _ _ (c .before .before .before .before .before .before .pre .0 .0) _ _ _ _ _ _ (c .before .before .before .before .before .before .pre .0 .1) _ _ _ _ I), (c .before .before .before .before .before .before .pre .1 .0, (c .before .before .before .before .before .before .pre .1 .1, I .used-is)))
+evaluate-rows-requires-2 c κs = let I = c .before .before .each-block .inv .1 in ((block-rows (c .before .before .before .before .before .before .pre .0 .0) (c .before .before .before .before .before .before .pre .0 .1) I (omega arith) (omega arith) (omega arith), block-halves (c .before .before .before .before .before .before .pre .0 .0) (c .before .before .before .before .before .before .pre .0 .1) I), (c .before .before .before .before .before .before .pre .1 .0, (c .before .before .before .before .before .before .pre .1 .1, I .used-is)))
 
 same-length : tie.Need-same-length Inv-each-block μ-each-block
 same-length c = c .before .before .evaluate-rows2 .kept .1 .1 .1 .1 .1 .1 .1 .0 ∙ c .before .before .before .before .before .each-block .inv .1 .room
 
 returns : tie.Need-returns Inv-each-block μ-each-block
-returns c = blocks-all _ _ (c .before .before .before .before .before .before .before .before .before .pre .0 .0) _ _ _ _ _ _ (c .before .before .before .before .before .before .before .before .before .pre .0 .1) _ _ _ _ (c .before .before .before .before .before .each-block .inv .1) _ (c .before .before .evaluate-rows2 .ensures .1 (c .before .before .before .before .before .before .before .before .before .args .work .now))
+returns c = blocks-all (c .before .before .before .before .before .before .before .before .before .pre .0 .0) (c .before .before .before .before .before .before .before .before .before .pre .0 .1) (c .before .before .before .before .before .each-block .inv .1) (c .before .before .evaluate-rows2 .ensures .1 (c .before .before .before .before .before .before .before .before .before .args .work .now))
 
 pub evaluate-spec : {M : Type 1} → statement M
 evaluate-spec =

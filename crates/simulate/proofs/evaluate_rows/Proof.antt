@@ -13,31 +13,31 @@ abbrev μ-rows : tie.MeasureT-rows
 μ-rows file start stop first inputs base before work₀ current previous initial row₀ place₀ used₀ work row place used = stop - row
 
 rows-holds : tie.Need-rows-holds Inv-rows μ-rows
-rows-holds c = (c .before .before .before .pre .0 .0 .from, walk-none _ _ _ _ _ _ _ _ _ _ (c .before .before .before .pre .0 .0) _ (c .before .before .before .pre .1 .1 .1) (c .before .before .before .pre .0 .1))
+rows-holds c = (c .before .before .before .pre .0 .0 .from, walk-none (c .before .before .before .pre .0 .0) (c .before .before .before .pre .1 .1 .1) (c .before .before .before .pre .0 .1))
 
 shared-slice-read-kind : tie.Need-shared-slice-read-kind Inv-rows μ-rows
-shared-slice-read-kind c = omega (arith, walk-inside _ _ _ _ _ _ _ _ _ _ (c .before .before .before .before .before .before .pre .0 .0) (c .before .before .before .before .before .before .pre .1 .1 .0) _ _ _ _ (c .before .before .rows .inv .1) (omega arith))
+shared-slice-read-kind c = omega (arith, walk-inside (c .before .before .before .before .before .before .pre .0 .0) (c .before .before .before .before .before .before .pre .1 .1 .0) (c .before .before .rows .inv .1) (omega arith))
 
 add-input : tie.Need-add-input Inv-rows μ-rows
-add-input c = omega (arith, walk-inputs _ _ _ _ _ _ _ _ _ _ (c .before .before .before .before .before .before .pre .0 .0) (c .before .before .before .before .before .before .pre .1 .1 .0) _ _ _ _ (c .before .before .rows .inv .1))
+add-input c = omega (arith, walk-inputs (c .before .before .before .before .before .before .pre .0 .0) (c .before .before .before .before .before .before .pre .1 .1 .0) (c .before .before .rows .inv .1))
 
 row-value-requires : tie.Need-row-value-requires Inv-rows μ-rows
-row-value-requires c κs = walk-asks _ _ _ _ _ _ _ _ _ _ (c .before .before .before .before .before .before .before .pre .0 .0) (c .before .before .before .before .before .before .before .pre .1 .1 .0) _ _ _ _ (c .before .before .before .rows .inv .1) (omega arith) (c .before .before .before .before .before .before .before .pre .1 .0)
+row-value-requires c κs = walk-asks (c .before .before .before .before .before .before .before .pre .0 .0) (c .before .before .before .before .before .before .before .pre .1 .1 .0) (c .before .before .before .rows .inv .1) (omega arith) (c .before .before .before .before .before .before .before .pre .1 .0)
 
 one-if-requires : tie.Need-one-if-requires Inv-rows μ-rows
 one-if-requires c κs = tt
 
 add-target : tie.Need-add-target Inv-rows μ-rows
-add-target c = omega (arith, walk-target _ _ _ _ _ _ _ _ _ _ (c .before .before .before .before .before .before .before .before .before .pre .0 .0) (c .before .before .before .before .before .before .before .before .before .pre .1 .1 .0) _ _ _ _ (c .before .before .before .before .before .rows .inv .1) (omega arith))
+add-target c = omega (arith, walk-target (c .before .before .before .before .before .before .before .before .before .pre .0 .0) (c .before .before .before .before .before .before .before .before .before .pre .1 .1 .0) (c .before .before .before .before .before .rows .inv .1) (omega arith))
 
 slice-write-work : tie.Need-slice-write-work Inv-rows μ-rows
-slice-write-work c = walk-target _ _ _ _ _ _ _ _ _ _ (c .before .before .before .before .before .before .before .before .before .pre .0 .0) (c .before .before .before .before .before .before .before .before .before .pre .1 .1 .0) _ _ _ _ (c .before .before .before .before .before .rows .inv .1) (omega arith)
+slice-write-work c = walk-target (c .before .before .before .before .before .before .before .before .before .pre .0 .0) (c .before .before .before .before .before .before .before .before .before .pre .1 .1 .0) (c .before .before .before .before .before .rows .inv .1) (omega arith)
 
 add-used : tie.Need-add-used Inv-rows μ-rows
-add-used c = omega (arith, walk-used _ _ _ _ _ _ _ _ _ _ (c .before .before .before .before .before .before .before .before .before .pre .0 .0) (c .before .before .before .before .before .before .before .before .before .pre .1 .1 .0) _ _ _ _ (c .before .before .before .before .before .rows .inv .1) (omega arith) _ (c .one-if .ensures .0))
+add-used c = omega (arith, walk-used (c .before .before .before .before .before .before .before .before .before .pre .0 .0) (c .before .before .before .before .before .before .before .before .before .pre .1 .1 .0) (c .before .before .before .before .before .rows .inv .1) (omega arith) (c .one-if .ensures .0))
 
 add-place : tie.Need-add-place Inv-rows μ-rows
-add-place c = omega (arith, walk-inside _ _ _ _ _ _ _ _ _ _ (c .before .before .before .before .before .before .before .before .before .pre .0 .0) (c .before .before .before .before .before .before .before .before .before .pre .1 .1 .0) _ _ _ _ (c .before .before .before .before .before .rows .inv .1) (omega arith))
+add-place c = omega (arith, walk-inside (c .before .before .before .before .before .before .before .before .before .pre .0 .0) (c .before .before .before .before .before .before .before .before .before .pre .1 .1 .0) (c .before .before .before .before .before .rows .inv .1) (omega arith))
 
 add-row : tie.Need-add-row Inv-rows μ-rows
 add-row c = omega arith
@@ -46,13 +46,13 @@ rows-less : tie.Need-rows-less Inv-rows μ-rows
 rows-less c = omega arith
 
 rows-again : tie.Need-rows-again Inv-rows μ-rows
-rows-again c = (omega arith, walk-more _ _ _ _ _ _ _ _ _ _ (c .before .before .before .before .before .before .before .before .before .pre .0 .0) (c .before .before .before .before .before .before .before .before .before .pre .1 .1 .0) _ _ _ _ (c .before .before .before .before .before .rows .inv .1) (omega arith) _ (c .one-if .ensures .0) _ (c .before .row-value .ensures))
+rows-again c = (omega arith, walk-more (c .before .before .before .before .before .before .before .before .before .pre .0 .0) (c .before .before .before .before .before .before .before .before .before .pre .1 .1 .0) (c .before .before .before .before .before .rows .inv .1) (omega arith) (c .one-if .ensures .0) (c .before .row-value .ensures))
 
 same-length : tie.Need-same-length Inv-rows μ-rows
 same-length c = c .before .rows .inv .1 .room
 
 returns : tie.Need-returns Inv-rows μ-rows
-returns c = walk-all _ _ _ _ _ _ _ _ _ _ (c .before .before .before .before .before .pre .0 .0) _ _ _ _ (omega arith) (c .before .rows .inv .1)
+returns c = walk-all (c .before .before .before .before .before .pre .0 .0) (omega arith) (c .before .rows .inv .1)
 
 pub evaluate-rows-spec : {M : Type 1} → statement M
 evaluate-rows-spec =
