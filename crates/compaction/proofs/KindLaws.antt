@@ -12,6 +12,7 @@ use borrow.Author.Tests.{ne-eqb, lt-ltb}
 use Rattle.memory.specs.Fields.{byteAt, u16At}
 use Rattle.netlist.specs.FileFormat.{rowOffset}
 use Rattle.netlist.specs.Rows.{Row, constant, input, register, andGate, xorGate, muxGate, output, encodeRow, rowFromFields, mapLiterals}
+use Rattle.netlist.proofs.RowLaws.{other-kind}
 use Rattle.abstraction.specs.Compaction.{faninNodes, isConeRoot}
 use Rattle.abstraction.proofs.ConeLaws.{EachBelow}
 use Rattle.compaction.specs.Compactable.{heldRow}
@@ -21,14 +22,7 @@ use Rattle.compaction.proofs.SlotLaws.{pushed-none}
 
 -- A kind that is none of 0 to 6, as a match says it.
 pub rest-constant : (k : ℕ) → (((((((Unit {0} × (k ≢ 0)) × (k ≢ 1)) × (k ≢ 2)) × (k ≢ 3)) × (k ≢ 4)) × (k ≢ 5)) × (k ≢ 6)) → (r a b c : ℕ) → rowFromFields k r a b c ≡ constant
-rest-constant zero h r a b c = refl
-rest-constant (suc zero) h r a b c = absurd (h .0 .0 .0 .0 .0 .1 refl)
-rest-constant (suc (suc zero)) h r a b c = absurd (h .0 .0 .0 .0 .1 refl)
-rest-constant (suc (suc (suc zero))) h r a b c = absurd (h .0 .0 .0 .1 refl)
-rest-constant (suc (suc (suc (suc zero)))) h r a b c = absurd (h .0 .0 .1 refl)
-rest-constant (suc (suc (suc (suc (suc zero))))) h r a b c = absurd (h .0 .1 refl)
-rest-constant (suc (suc (suc (suc (suc (suc zero)))))) h r a b c = absurd (h .1 refl)
-rest-constant (suc (suc (suc (suc (suc (suc (suc k))))))) h r a b c = refl
+rest-constant k h r a b c = other-kind k r a b c (h .0 .0 .0 .0 .0 .0 .1) (h .0 .0 .0 .0 .0 .1) (h .0 .0 .0 .0 .1) (h .0 .0 .0 .1) (h .0 .0 .1) (h .0 .1) (h .1)
 
 pub fanins-are : (k r a b c : ℕ) → faninNodes (rowFromFields k r a b c) ≡ take (literalCount k) (a / 2 ∷ b / 2 ∷ c / 2 ∷ [])
 fanins-are zero r a b c = refl

@@ -5,7 +5,7 @@ use mathlib.Core.Path.{_≡_, refl, sym, ap, ap₂, _∙_, subst}
 use mathlib.Core.Bool.{Bool, true, false, cond}
 use mathlib.Core.List.{List, [], _∷_}
 use native.Mathlib.Omega.{arith}
-use native.Mathlib.Nat.{pow-suc, mul-assoc, mul-comm, add-comm, add-mul-div-right, add-mul-mod-self-right, mod-eq-of-lt}
+use native.Mathlib.Nat.{pow-suc, mul-assoc, mul-comm, mul-le-mul-right, add-comm, add-mul-div-right, add-mul-mod-self-right, mod-eq-of-lt}
 use lib.Arith.{digits-div}
 use lib.Pow.{pow-pos, pow-add}
 use lib.ListN.{length, getD, take, length-append}
@@ -25,16 +25,14 @@ bit-lt lo = omega arith
 bit-lt hi = omega arith
 bit-lt X = omega arith
 
+pub bit-small : (c k : ℕ) → c < 2 → c * 2 ^ k ≤ 2 ^ k
+bit-small c k h = let e : c * 2 ^ k ≤ 1 * 2 ^ k = mul-le-mul-right (2 ^ k) (omega arith) in omega arith
+
 module _ (f : ℕ → Ternary) where
   pub word-lt : (n : ℕ) → clockWord f n < 2 ^ n
   unfolding clockWord
   word-lt zero = omega arith
-  word-lt (suc n) = omega (arith, word-lt n, pow-suc 2 n, product (bitOf (f n)) (bit-lt (f n)))
-    where
-      product : (b : ℕ) → b < 2 → b * 2 ^ n ≤ 2 ^ n
-      product zero h = omega arith
-      product (suc zero) h = omega arith
-      product (suc (suc b)) h = absurd (omega arith)
+  word-lt (suc n) = omega (arith, word-lt n, pow-suc 2 n, bit-small (bitOf (f n)) n (bit-lt (f n)))
 
   -- A bit above bit k does not change bit k.
   higher-bit : (w b k n : ℕ) → k < n → (w + b * 2 ^ n) / 2 ^ k % 2 ≡ w / 2 ^ k % 2

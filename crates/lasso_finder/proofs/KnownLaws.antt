@@ -7,7 +7,7 @@ use mathlib.Core.List.{List, [], _∷_}
 use native.Mathlib.Omega.{arith}
 use native.Mathlib.Numerals.{add-one}
 use native.Mathlib.Decide.{decLt}
-use native.Mathlib.Nat.{add-zero, mod-lt, mul-le-mul-right, pow-le-pow-right}
+use native.Mathlib.Nat.{add-zero, mod-lt, pow-le-pow-right}
 use borrow.Author.Tests.{ne-eqb, ltb-true, le-leb}
 use lib.Dec.{eqb, ltb}
 use lib.Pow.{shl-exact}
@@ -41,9 +41,6 @@ use Rattle.lasso_finder.proofs.CountLaws.{used-above, used-small}
 
 pub bit-exact : (c k : ℕ) → c < 2 → k < mostPhases → (c * 2 ^ k) % 2 ^ 64 ≡ c * 2 ^ k
 bit-exact c k h l = shl-exact 1 k 64 (omega arith) (omega arith)
-
-pub bit-small : (c k : ℕ) → c < 2 → c * 2 ^ k ≤ 2 ^ k
-bit-small c k h = let e : c * 2 ^ k ≤ 1 * 2 ^ k = mul-le-mul-right (2 ^ k) (omega arith) in omega arith
 
 bit-of-code : (c : ℕ) → c < 2 → c ≡ bitOf (valueOf c)
 bit-of-code zero h = refl

@@ -1,7 +1,8 @@
 -- `bit_at` meets its contract: a bit below bit 8 loses nothing.
 -- Assumes nothing.
 use native.Mathlib.Omega.{arith}
-use Rattle.lasso_finder.proofs.KnownLaws.{bit-exact, bit-small}
+use Rattle.lasso.proofs.ClockLaws.{bit-small}
+use Rattle.lasso_finder.proofs.KnownLaws.{bit-exact}
 use borrow.Author.Needs.{needs}
 use Rattle.lasso_finder.proofs.known.bit_at.Statement.{statement}
 use Rattle.lasso_finder.proofs.known.bit_at.Tie as tie
