@@ -199,8 +199,7 @@ module _ (f : List ℕ) (n : ℕ) (N : NetlistReady f n) where
     pub choice-most : k ≤ i
     choice-most = omega (arith, count-some-le isUnknown constant (netlistOf f) i .0)
 
-  -- the byte of each row from `half` on
-
+  -- The byte of each row from `half` on.
   module _ (F : Row → Bool) (low : F constant ≡ false) where
     row-bytes-length : length (bitBytes (map F (netlistOf f))) ≡ n
     row-bytes-length = length-map (map F (netlistOf f)) bitByte ∙ length-map (netlistOf f) F ∙ sym (N .ready .count)
@@ -216,12 +215,11 @@ module _ (f : List ℕ) (n : ℕ) (N : NetlistReady f n) where
     pub hold-all : (half : ℕ) (v w : List ℕ) (i : ℕ) → i ≡ n → w ≡ sets v half (take i (bitBytes (map F (netlistOf f)))) → w ≡ sets v half (bitBytes (map F (netlistOf f)))
     hold-all half v w i e ew = ew ∙ ap (λ (l : List ℕ). sets v half l) (take-all i (bitBytes (map F (netlistOf f))) (omega (arith, row-bytes-length)))
 
-  module _ (half : ℕ) (v : List ℕ) (W : WorkReady n half v) (i : ℕ) (w : List ℕ) (h : i < n) where
-    module _ (choices : List ℕ) (k : ℕ) (ek : k ≡ placeAmong isUnknown (netlistOf f) i) where
-      abbrev startIn : Row → Bool
-      startIn = resetValue boolLogic (resetChoices (netlistOf f) choices)
+  module _ (half : ℕ) (v : List ℕ) (W : WorkReady n half v) (i : ℕ) (w : List ℕ) (h : i < n) (choices : List ℕ) (k : ℕ) (ek : k ≡ placeAmong isUnknown (netlistOf f) i) where
+    abbrev startIn : Row → Bool
+    startIn = resetValue boolLogic (resetChoices (netlistOf f) choices)
 
-      pub start-more : (p x : ℕ) → w ≡ sets v half (take i (bitBytes (map startIn (netlistOf f)))) → p ≡ half + i → x ≡ bitByte (resetValue boolLogic (λ l. bitAt choices k) (rowAt (netlistOf f) i)) → set w p x ≡ sets v half (take (i + 1) (bitBytes (map startIn (netlistOf f))))
-      start-more p x ew ep ex =
-          hold-more startIn refl half v W i w h ew p x ep
-          (ex ∙ ap bitByte (choice-cong (λ l. bitAt choices k) (resetChoices (netlistOf f) choices) (rowAt (netlistOf f) i) (λ s m l e. ap (bitAt choices) (ek ∙ ap (placeAmong isUnknown (netlistOf f)) (sym (register-place (netlistOf f) (N .checked .unique) i (in-rows i h) s m l e))))))
+    pub start-more : (p x : ℕ) → w ≡ sets v half (take i (bitBytes (map startIn (netlistOf f)))) → p ≡ half + i → x ≡ bitByte (resetValue boolLogic (λ l. bitAt choices k) (rowAt (netlistOf f) i)) → set w p x ≡ sets v half (take (i + 1) (bitBytes (map startIn (netlistOf f))))
+    start-more p x ew ep ex =
+        hold-more startIn refl half v W i w h ew p x ep
+        (ex ∙ ap bitByte (choice-cong (λ l. bitAt choices k) (resetChoices (netlistOf f) choices) (rowAt (netlistOf f) i) (λ s m l e. ap (bitAt choices) (ek ∙ ap (placeAmong isUnknown (netlistOf f)) (sym (register-place (netlistOf f) (N .checked .unique) i (in-rows i h) s m l e))))))
