@@ -2,9 +2,9 @@
 ghost use Prim.Native.Nat.{_<_};
 use crate::bytes::byte_at;
 use crate::bytes::field_at;
-use crate::bytes::get;
-use crate::bytes::put;
 use crate::bytes::size_at;
+use text::bytes::get;
+use text::bytes::put;
 
 const LAST: u8 = 2;
 

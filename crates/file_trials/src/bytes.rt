@@ -1,22 +1,7 @@
 // Bytes and numbers of a lent buffer; past its end nothing is read or written.
-ghost use Prim.Native.Nat.{_≤_, _<_};
-
-// The byte at `at` becomes `value`.
-pub fn put(bytes: &mut [u8], at: usize, value: u8) {
-    if at < bytes.len() {
-        bytes[at] = value;
-    }
-}
-
-// The byte at `at`, and 0 past the end.
-pub fn get(bytes: &[u8], at: usize) -> u8 {
-    if at < bytes.len() { bytes[at] } else { 0 }
-}
-
-// The number at `at`, and 0 past the end.
-pub fn number_at(numbers: &[u32], at: usize) -> u32 {
-    if at < numbers.len() { numbers[at] } else { 0 }
-}
+ghost use Prim.Native.Nat.{_<_};
+use text::bytes::get;
+use text::numbers::number_at;
 
 pub fn size_at(numbers: &[u32], at: usize) -> usize
     ensures { λ r. ⌜ r < 4294967296 ⌝ }
@@ -32,19 +17,6 @@ pub fn byte_at(numbers: &[u32], at: usize) -> u8 {
 // The low 16 bits.
 pub fn field_at(numbers: &[u32], at: usize) -> u16 {
     (number_at(numbers, at) % 65536) as u16
-}
-
-// The smaller of the two.
-pub fn least(x: usize, y: usize) -> usize
-    ensures { λ r. ⌜ (r ≤ x) × (r ≤ y) ⌝ }
-{
-    if x < y { x } else { y }
-}
-
-// The first `size` bytes, or all.
-pub fn part<'a>(bytes: &'a [u8], size: usize) -> &'a [u8] {
-    let end = least(size, bytes.len());
-    &bytes[0..end]
 }
 
 // Every byte becomes that of `model`, and 0 past its end.

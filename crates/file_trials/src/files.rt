@@ -1,19 +1,22 @@
 // The lines that try Check, Count and Show.
-use crate::bytes::get;
-use crate::bytes::number_at;
 use crate::bytes::one_if;
-use crate::bytes::part;
 use crate::bytes::size_at;
 use crate::tell::Seen;
 use crate::tell::Tally;
 use blockfile::count::Counts;
 use phasefold::CountAnswer;
+use text::both;
+use text::bytes::first;
+use text::bytes::get;
+use text::bytes::rest;
+use text::bytes::same;
+use text::numbers::number_at;
 
 // Check SIZE is NUMBER PLACE
 fn try_check(tally: Tally, numbers: &[u32], file: &[u8]) -> Tally {
     let size = size_at(numbers, 1);
     let expected = Seen(number_at(numbers, 3), number_at(numbers, 4));
-    let value = crate::tell::of_check(phasefold::check(part(file, size)));
+    let value = crate::tell::of_check(phasefold::check(first(file, size)));
     crate::tell::outcome(tally, value, expected, true)
 }
 
@@ -23,7 +26,7 @@ fn count_accepted(file: &[u8], longest: u16) -> u32 {
     let mut size: u16 = 0;
     'sizes: while size < longest {
         size += 1;
-        let answer = phasefold::check(part(file, size as usize));
+        let answer = phasefold::check(first(file, size as usize));
         let value = crate::tell::of_check(answer);
         let more = one_if(value.0 == 0);
         accepted = std::num::wrapping_add_u32(accepted, more);
@@ -44,13 +47,13 @@ fn flip(file: &mut [u8], i: u16) {
     let bit = i % 8;
     let mask = 1u8 << bit;
     let byte = get(file, at);
-    crate::bytes::put(file, at, byte ^ mask);
+    text::bytes::put(file, at, byte ^ mask);
 }
 
 // 1 if the first block with that bit changed is refused with 2 at block 0.
 fn flip_refused(file: &mut [u8], i: u16) -> u32 {
     flip(file, i);
-    let answer = phasefold::check(part(file, 512));
+    let answer = phasefold::check(first(file, 512));
     flip(file, i);
     let value = crate::tell::of_check(answer);
     one_if(crate::tell::alike(value, Seen(2, 0)))
@@ -106,13 +109,14 @@ fn counts_right(counts: Counts, numbers: &[u32]) -> bool {
     let registers = counts.registers == size_at(numbers, 5);
     let unknown = counts.unknown == size_at(numbers, 6);
     let outputs = counts.outputs == size_at(numbers, 7);
-    nodes && inputs && registers && unknown && outputs
+    let ends = both(inputs, outputs);
+    both(both(nodes, ends), both(registers, unknown))
 }
 
 // Numbers SIZE is NODES INPUTS REGISTERS UNKNOWN OUTPUTS, of a file that Count accepts
 fn try_counts(tally: Tally, numbers: &[u32], file: &[u8]) -> Tally {
     let size = size_at(numbers, 1);
-    match phasefold::count(part(file, size)) {
+    match phasefold::count(first(file, size)) {
         CountAnswer::Counted(counts) => {
             print_counts(counts);
             crate::tell::judged(tally, counts_right(counts, numbers))
@@ -125,7 +129,7 @@ fn try_counts(tally: Tally, numbers: &[u32], file: &[u8]) -> Tally {
 fn try_uncounted(tally: Tally, numbers: &[u32], file: &[u8]) -> Tally {
     let size = size_at(numbers, 1);
     let expected = Seen(number_at(numbers, 3), number_at(numbers, 4));
-    match phasefold::count(part(file, size)) {
+    match phasefold::count(first(file, size)) {
         CountAnswer::Counted(_) => crate::tell::judged(tally, false),
         CountAnswer::Refused(refusal) => {
             let value = crate::tell::of_file(refusal);
@@ -136,34 +140,17 @@ fn try_uncounted(tally: Tally, numbers: &[u32], file: &[u8]) -> Tally {
 
 // ---- Show
 
-// Whether the part shown is the file's bytes from `start` on.
-fn same_from(file: &[u8], start: usize, shown: &[u8]) -> bool {
-    let mut at = start;
-    let mut i = 0;
-    'comparing: while i < shown.len() {
-        if get(file, at) != shown[i] {
-            return false;
-        }
-        at = std::num::wrapping_add_usize(at, 1);
-        i += 1;
-    }
-    true
-}
-
 // The block's 504 bytes on success, no byte after a refusal.
 fn part_right(file: &[u8], block: u32, shown: &[u8], number: u32) -> bool {
-    let size = shown.len();
-    if number != 0 {
-        return size == 0;
-    }
     let start = 512 * block as usize + 4;
-    let whole = size == 504;
-    whole && same_from(file, start, shown)
+    let size = if number == 0 { 504 } else { 0 };
+    let part = first(rest(file, start), size);
+    same(shown, part)
 }
 
 // Show SIZE BLOCK is NUMBER PLACE; number and place hold something else before.
 fn try_show(tally: Tally, numbers: &[u32], file: &[u8]) -> Tally {
-    let netlist = part(file, size_at(numbers, 1));
+    let netlist = first(file, size_at(numbers, 1));
     let block = number_at(numbers, 2);
     let expected = Seen(number_at(numbers, 4), number_at(numbers, 5));
     let mut number: u32 = 77;

@@ -78,7 +78,7 @@ fn obey_line(
 ) -> Tally {
     let mut words = [0u32; 16];
     let numbers: &mut [u32] = &mut words;
-    let letter = bytes::get(line, 0);
+    let letter = text::bytes::get(line, 0);
     script::read_numbers(line, numbers);
     echo(letter, line);
     let tried = obey_file(letter, numbers, file, kept, tally);

@@ -1,15 +1,16 @@
 // The lines that try Run: its lists, what it writes, what it leaves, and questions 17 to 20.
 use crate::bytes::all_from;
 use crate::bytes::byte_at;
-use crate::bytes::get;
-use crate::bytes::least;
-use crate::bytes::number_at;
 use crate::bytes::one_if;
-use crate::bytes::part;
-use crate::bytes::put;
 use crate::bytes::size_at;
 use crate::tell::Seen;
 use crate::tell::Tally;
+use text::both;
+use text::bytes::first;
+use text::bytes::get;
+use text::bytes::least;
+use text::bytes::put;
+use text::numbers::number_at;
 
 // What result and work hold before a run.
 const RESULT_FILL: u8 = 170;
@@ -61,10 +62,10 @@ fn run_lent(
     result: &mut [u8],
     work: &mut [u8],
 ) -> Seen {
-    let netlist = part(file, size_at(numbers, 1));
+    let netlist = first(file, size_at(numbers, 1));
     let steps = number_at(numbers, 2);
-    let chosen = part(choices, size_at(numbers, 3));
-    let given = part(inputs, size_at(numbers, 4));
+    let chosen = first(choices, size_at(numbers, 3));
+    let given = first(inputs, size_at(numbers, 4));
     let result_end = least(size_at(numbers, 5), result.len());
     let work_end = least(size_at(numbers, 6), work.len());
     let answer = phasefold::run(
@@ -83,9 +84,9 @@ fn left_right(numbers: &[u32], result: &[u8], work: &[u8]) -> bool {
     let work_size = size_at(numbers, 6);
     let written = size_at(numbers, 10);
     let kept = all_from(result, written, RESULT_FILL);
-    let cleared = all_from(part(work, work_size), 0, 0);
+    let cleared = all_from(first(work, work_size), 0, 0);
     let rest = all_from(work, work_size, WORK_FILL);
-    kept && cleared && rest
+    both(both(kept, cleared), rest)
 }
 
 // Run SIZE STEPS CHOICES INPUTS RESULT WORK is NUMBER PLACE WRITTEN

@@ -1,31 +1,20 @@
 // The script on standard input: a line is a word and numbers, parted by single blanks; only the word's first letter counts.
-use crate::bytes::least;
-
-// Where the line that begins at `start` ends.
-fn line_end(script: &[u8], start: usize) -> usize {
-    let mut end = start;
-    'line: while end < script.len() {
-        if script[end] == b'\n' {
-            return end;
-        }
-        end += 1;
-    }
-    end
-}
+use text::bytes::least;
+use text::bytes::line_end;
+use text::numbers::LARGEST;
+use text::numbers::with_digit;
 
 // The line that begins at `start`, without its line feed.
 pub fn line_at<'a>(script: &'a [u8], start: usize) -> &'a [u8] {
-    let end = line_end(script, start);
-    let stop = least(end, script.len());
-    let first = least(start, stop);
-    &script[first..stop]
+    let from = least(start, script.len());
+    let end = line_end(script, from);
+    &script[from..end]
 }
 
-// The number with one digit more; a byte that is no digit changes nothing.
-fn with_digit(value: u32, byte: u8) -> u32 {
-    let longer = 10 * value as u64;
+// The number with one byte more; a byte that is no digit changes nothing.
+fn with_byte(value: u32, byte: u8) -> u32 {
     match byte {
-        b'0'..=b'9' => ((longer + (byte - b'0') as u64) % 4294967296) as u32,
+        b'0'..=b'9' => with_digit(value, byte - b'0', LARGEST),
         _ => value,
     }
 }
@@ -34,7 +23,7 @@ fn with_digit(value: u32, byte: u8) -> u32 {
 fn read_byte(numbers: &mut [u32], slot: usize, byte: u8) {
     if slot < numbers.len() {
         let value = numbers[slot];
-        numbers[slot] = with_digit(value, byte);
+        numbers[slot] = with_byte(value, byte);
     }
 }
 

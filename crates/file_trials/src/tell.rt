@@ -3,6 +3,7 @@ use accept::Acceptance;
 use accept::FileRefusal;
 use run_core::RunAnswer;
 use run_core::RunRefusal;
+use text::both;
 
 // A refusal's number and place by the scope paper; 0 and 0 for success.
 pub struct Seen(pub u32, pub u32);
@@ -60,7 +61,7 @@ pub fn of_run(answer: RunAnswer) -> Seen {
 pub fn alike(value: Seen, expected: Seen) -> bool {
     let same_number = value.0 == expected.0;
     let same_place = value.1 == expected.1;
-    same_number && same_place
+    both(same_number, same_place)
 }
 
 // ---- printed lines
@@ -98,7 +99,7 @@ pub fn outcome(tally: Tally, value: Seen, expected: Seen, right: bool) -> Tally 
         io::write_all(1, b" and leaves the wrong bytes");
     }
     let same = alike(value, expected);
-    judged(tally, same && right)
+    judged(tally, both(same, right))
 }
 
 // How many expectations were met.

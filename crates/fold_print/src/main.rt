@@ -1,31 +1,16 @@
 // The printing program: one netlist file on standard input is folded with wish 0; the answers, the clock entries and the result's rows are printed, or the refusal.
-ghost use mathlib.Core.Path.{_≡_};
-ghost use lib.ListN.{length};
 use fold_core::FoldNumbers;
 use fold_core::FoldRefusal;
 use fold_core::Folding;
+use listing::folds::CLOCK_ENTRIES;
+use listing::folds::work_room;
+use listing::rows::file_room;
 use text::out::Out;
 use text::out::to;
 
 const WISH: u32 = 0;
 
-const CLOCK_ENTRIES: usize = 256;
-
 const OUTPUT: i32 = 1;
-
-// One byte more than a file may have: a longer input is seen, and refused with 1.
-fn file_room() -> [u8; 65537]
-    ensures { λ r. ⌜ 65537 ≡ length r ⌝ }
-{
-    [0; 65537]
-}
-
-// Work for a fold.
-fn work_room() -> [u8; 49152]
-    ensures { λ r. ⌜ 49152 ≡ length r ⌝ }
-{
-    [0; 49152]
-}
 
 // The answers, the clock entries and the rows.
 fn put_fold(buffer: &mut [u8], numbers: FoldNumbers, result: &[u8], work: &[u8]) -> Out {

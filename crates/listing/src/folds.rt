@@ -1,13 +1,24 @@
 // Fold's answers and clock entries as lines of text.
+ghost use mathlib.Core.Path.{_≡_};
 ghost use Prim.Native.Nat.{_+_, _≤_};
 ghost use lib.ListN.{length};
 use fold_core::FoldNumbers;
 use text::out::Out;
-use text::out::put;
-use text::out::put_pair;
+use text::out::put_filled;
+use text::out::two;
+
+// How many entries a clock list has room for.
+pub const CLOCK_ENTRIES: usize = 256;
 
 // Where the packed clock entries begin in the work memory; each has eight bytes.
 const ENTRIES: usize = 16384;
+
+// Work for a fold.
+pub fn work_room() -> [u8; 49152]
+    ensures { λ r. ⌜ 49152 ≡ length r ⌝ }
+{
+    [0; 49152]
+}
 
 // A clock entry.
 pub struct Entry {
@@ -55,17 +66,20 @@ pub fn put_numbers(buffer: &mut [u8], out: Out, numbers: FoldNumbers) -> Out {
     let used = numbers.used as usize;
     let before = numbers.before as usize;
     let after = numbers.after as usize;
-    let lasso = put_pair(buffer, out, b"stem ", stem, b" cycle ", cycle);
-    let clocked = put_pair(buffer, lasso, b" phases ", phases, b" used ", used);
-    let line = put_pair(buffer, clocked, b" rows ", before, b" to ", after);
-    put(buffer, line, b"\n")
+    let answers = [stem, cycle, phases, used, before, after];
+    put_filled(
+        buffer,
+        out,
+        b"stem # cycle # phases # used # rows # to #\n",
+        answers,
+    )
 }
 
 // A clock's label and period.
 pub fn put_clock(buffer: &mut [u8], out: Out, entry: Entry) -> Out {
     let label = entry.label as usize;
     let period = entry.period as usize;
-    put_pair(buffer, out, b"clock ", label, b" period ", period)
+    put_filled(buffer, out, b"clock # period #", two(label, period))
 }
 
 // The line of a clock entry.
@@ -73,8 +87,7 @@ fn put_entry(buffer: &mut [u8], out: Out, entry: Entry) -> Out {
     let word = entry.word as usize;
     let ones = entry.ones as usize;
     let named = put_clock(buffer, out, entry);
-    let line = put_pair(buffer, named, b" word ", word, b" ones ", ones);
-    put(buffer, line, b"\n")
+    put_filled(buffer, named, b" word # ones #\n", two(word, ones))
 }
 
 // The lines of the first `used` entries.

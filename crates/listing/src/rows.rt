@@ -7,10 +7,16 @@ use blockfile::Fields;
 use text::bytes::get;
 use text::bytes::wide;
 use text::out::Out;
-use text::out::put;
-use text::out::put_pair;
+use text::out::put_filled;
 
 pub const MOST_ROWS: usize = 8064;
+
+// One byte more than a file may have: a longer one is seen, and refused with 1.
+pub fn file_room() -> [u8; 65537]
+    ensures { λ r. ⌜ 65537 ≡ length r ⌝ }
+{
+    [0; 65537]
+}
 
 // The number of the last block; 0 if there is no block.
 pub fn last_block(file: &[u8]) -> usize
@@ -58,10 +64,8 @@ pub fn put_row(buffer: &mut [u8], out: Out, file: &[u8], row: usize) -> Out {
     let fields = fields_of(file, row);
     let kind = wide(fields.kind);
     let reset = wide(fields.reset);
-    let kinded = put_pair(buffer, out, b"", row, b" ", kind);
-    let operand = put_pair(buffer, kinded, b" ", reset, b" ", fields.a);
-    let line = put_pair(buffer, operand, b" ", fields.b, b" ", fields.c);
-    put(buffer, line, b"\n")
+    let numbers = [row, kind, reset, fields.a, fields.b, fields.c];
+    put_filled(buffer, out, b"# # # # # #\n", numbers)
 }
 
 // The lines of the first `rows` rows.
@@ -73,17 +77,4 @@ pub fn put_rows(buffer: &mut [u8], out: Out, file: &[u8], rows: usize) -> Out {
         row += 1;
     }
     now
-}
-
-// The name of a kind.
-pub fn put_kind(buffer: &mut [u8], out: Out, kind: u8) -> Out {
-    match kind {
-        0 => put(buffer, out, b"constant"),
-        1 => put(buffer, out, b"input"),
-        2 => put(buffer, out, b"register"),
-        3 => put(buffer, out, b"AND"),
-        4 => put(buffer, out, b"XOR"),
-        5 => put(buffer, out, b"MUX"),
-        _ => put(buffer, out, b"output"),
-    }
 }

@@ -2,6 +2,7 @@
 use crate::causes::refuse;
 use crate::outcome::OUTPUT;
 use crate::outcome::Outcome;
+use crate::outcome::done_with;
 use crate::outcome::fail_at;
 use crate::outcome::finish;
 use listing::rows::put_rows;
@@ -9,47 +10,36 @@ use listing::rows::row_count;
 use phasefold::foreign::PfCounts;
 use phasefold::foreign::PfRefusal;
 use text::numbers::Number;
-use text::out::Out;
-use text::out::put;
+use text::out::none;
 use text::out::put_byte;
 use text::out::put_hex;
-use text::out::put_named;
 use text::out::to;
 
 // ---- Check
 
 // Whether the file is accepted.
-pub fn check(buffer: &mut [u8], file: &[u8]) -> Outcome {
+pub fn check(file: &[u8]) -> Outcome {
     let refusal = phasefold::foreign::pf_check(file);
     if refusal.number == 0 {
-        let out = put(buffer, to(OUTPUT), b"accepted\n");
-        finish(buffer, out, Outcome::Done)
+        done_with(b"accepted\n", none())
     } else {
-        refuse(buffer, file, refusal, b"")
+        refuse(file, refusal, b"")
     }
 }
 
 // ---- Count
 
-// The line of a count.
-fn put_count(buffer: &mut [u8], out: Out, name: &[u8], count: u32) -> Out {
-    let named = put_named(buffer, out, name, count as usize);
-    put(buffer, named, b"\n")
-}
-
-// The lines of registers and outputs.
-fn put_other_counts(buffer: &mut [u8], out: Out, counts: PfCounts) -> Out {
-    let registers = put_count(buffer, out, b"registers ", counts.registers);
-    let unknown = put_count(buffer, registers, b"X registers ", counts.unknown);
-    put_count(buffer, unknown, b"outputs ", counts.outputs)
-}
-
 // The lines of all counts.
-fn put_counts(buffer: &mut [u8], counts: PfCounts) -> Outcome {
-    let nodes = put_count(buffer, to(OUTPUT), b"nodes ", counts.nodes);
-    let inputs = put_count(buffer, nodes, b"inputs ", counts.inputs);
-    let out = put_other_counts(buffer, inputs, counts);
-    finish(buffer, out, Outcome::Done)
+fn tell_counts(counts: PfCounts) -> Outcome {
+    let nodes = counts.nodes as usize;
+    let inputs = counts.inputs as usize;
+    let registers = counts.registers as usize;
+    let unknown = counts.unknown as usize;
+    let outputs = counts.outputs as usize;
+    done_with(
+        b"nodes #\ninputs #\nregisters #\nX registers #\noutputs #\n",
+        [nodes, inputs, registers, unknown, outputs, 0],
+    )
 }
 
 // The refusal that stands in an answer of Count.
@@ -61,12 +51,12 @@ pub fn count_refusal(counts: PfCounts) -> PfRefusal {
 }
 
 // How many rows of each sort the file has.
-pub fn count(buffer: &mut [u8], file: &[u8]) -> Outcome {
+pub fn count(file: &[u8]) -> Outcome {
     let counts = phasefold::foreign::pf_count(file);
     if counts.number == 0 {
-        put_counts(buffer, counts)
+        tell_counts(counts)
     } else {
-        refuse(buffer, file, count_refusal(counts), b"")
+        refuse(file, count_refusal(counts), b"")
     }
 }
 
@@ -89,39 +79,51 @@ fn put_part(buffer: &mut [u8], part: &[u8]) -> Outcome {
     finish(buffer, out, Outcome::Done)
 }
 
+// The part's lines.
+fn tell_part(part: &[u8]) -> Outcome {
+    let mut room = io::buffer();
+    put_part(&mut room, part)
+}
+
 // The row part of a block, or the refusal.
-fn show_block(buffer: &mut [u8], file: &[u8], block: u32, word: &[u8]) -> Outcome {
+fn show_block(file: &[u8], block: u32, word: &[u8]) -> Outcome {
     let mut number: u32 = 0;
     let mut place: u32 = 0;
     let part = phasefold::show(file, block, &mut number, &mut place);
     if number == 0 {
-        put_part(buffer, part)
+        tell_part(part)
     } else {
         let refusal = PfRefusal {
             number: number,
             place: place,
         };
-        refuse(buffer, file, refusal, word)
+        refuse(file, refusal, word)
     }
 }
 
 // The block is the number that the word has.
-pub fn show(buffer: &mut [u8], file: &[u8], word: &[u8]) -> Outcome {
+pub fn show(file: &[u8], word: &[u8]) -> Outcome {
     match text::numbers::read(word) {
-        Number::Is(block) => show_block(buffer, file, block, word),
-        Number::Not => fail_at(buffer, word, b": the block is not a number"),
+        Number::Is(block) => show_block(file, block, word),
+        Number::Not => fail_at(word, b": the block is not a number\n"),
     }
 }
 
 // ---- rows as text
 
+// The lines of all rows.
+fn tell_rows(file: &[u8]) -> Outcome {
+    let mut room = io::large_buffer();
+    let out = put_rows(&mut room, to(OUTPUT), file, row_count(file));
+    finish(&room, out, Outcome::Done)
+}
+
 // All rows of an accepted file.
-pub fn rows(buffer: &mut [u8], file: &[u8]) -> Outcome {
+pub fn rows(file: &[u8]) -> Outcome {
     let refusal = phasefold::foreign::pf_check(file);
     if refusal.number == 0 {
-        let out = put_rows(buffer, to(OUTPUT), file, row_count(file));
-        finish(buffer, out, Outcome::Done)
+        tell_rows(file)
     } else {
-        refuse(buffer, file, refusal, b"")
+        refuse(file, refusal, b"")
     }
 }

@@ -1,12 +1,10 @@
 // What is wrong with a block: refusals 2 to 5.
+use crate::outcome::say;
 use listing::rows::last_block;
 use text::bytes::get;
 use text::bytes::least;
 use text::bytes::wide;
-use text::out::Out;
-use text::out::put;
-use text::out::put_named;
-use text::out::put_pair;
+use text::out::two;
 
 // The block's bytes.
 fn block_at<'a>(file: &'a [u8], block: usize) -> &'a [u8] {
@@ -26,9 +24,12 @@ fn sum_of(block: &[u8]) -> usize {
 }
 
 // 2
-fn put_sum(buffer: &mut [u8], out: Out, block: &[u8]) -> Out {
-    let seen = put_named(buffer, out, b": its 128 words sum to ", sum_of(block));
-    put(buffer, seen, b", and should sum to 4294967295")
+fn say_sum(block: &[u8], number: usize) {
+    let sum = sum_of(block);
+    say(
+        b"block #: its 128 words sum to #, and should sum to 4294967295",
+        two(number, sum),
+    );
 }
 
 // Byte 0 of this block, as it should be.
@@ -37,29 +38,30 @@ fn mark_of(file: &[u8], number: usize) -> usize {
 }
 
 // 3
-fn put_head(buffer: &mut [u8], out: Out, block: &[u8], number: usize, mark: usize) -> Out {
+fn say_head(block: &[u8], number: usize, mark: usize) {
     let first = wide(get(block, 0));
     let second = wide(get(block, 1));
     let last = wide(get(block, 3));
-    let begun = put_pair(
-        buffer,
-        out,
-        b": bytes 0, 1 and 3 are ",
-        first,
-        b", ",
-        second,
+    let numbers = [number, first, second, last, mark, number];
+    say(
+        b"block #: bytes 0, 1 and 3 are #, # and #, and should be #, # and 0",
+        numbers,
     );
-    let seen = put_pair(buffer, begun, b" and ", last, b", and should be ", mark);
-    put_pair(buffer, seen, b", ", number, b" and ", 0)
 }
 
 // 4
-fn put_row_count(buffer: &mut [u8], out: Out, block: &[u8], mark: usize) -> Out {
-    let seen = put_named(buffer, out, b": its row count is ", wide(get(block, 2)));
+fn say_row_count(block: &[u8], number: usize, mark: usize) {
+    let seen = two(number, wide(get(block, 2)));
     if mark == 2 {
-        put(buffer, seen, b", and the last block's is 1 to 63")
+        say(
+            b"block #: its row count is #, and the last block's is 1 to 63",
+            seen,
+        );
     } else {
-        put(buffer, seen, b", and is 63 in every block but the last")
+        say(
+            b"block #: its row count is #, and is 63 in every block but the last",
+            seen,
+        );
     }
 }
 
@@ -76,28 +78,24 @@ fn first_used(block: &[u8]) -> usize {
 }
 
 // 5
-fn put_unused(buffer: &mut [u8], out: Out, block: &[u8]) -> Out {
+fn say_unused(block: &[u8], number: usize) {
     let at = first_used(block);
     let byte = wide(get(block, at));
     let rows = wide(get(block, 2));
-    let seen = put_pair(buffer, out, b": byte ", at, b" is ", byte);
-    put_named(
-        buffer,
-        seen,
-        b", and should be 0: the block's row count is ",
-        rows,
-    )
+    say(
+        b"block #: byte # is #, and should be 0: the block's row count is #",
+        [number, at, byte, rows, 0, 0],
+    );
 }
 
 // The sentence of a refusal of this number at a block.
-pub fn put_block_cause(buffer: &mut [u8], out: Out, file: &[u8], number: u32, place: usize) -> Out {
-    let placed = put_named(buffer, out, b"block ", place);
+pub fn say_block_cause(file: &[u8], number: u32, place: usize) {
     let block = block_at(file, place);
     let mark = mark_of(file, place);
     match number {
-        2 => put_sum(buffer, placed, block),
-        3 => put_head(buffer, placed, block, place, mark),
-        4 => put_row_count(buffer, placed, block, mark),
-        _ => put_unused(buffer, placed, block),
+        2 => say_sum(block, place),
+        3 => say_head(block, place, mark),
+        4 => say_row_count(block, place, mark),
+        _ => say_unused(block, place),
     }
 }

@@ -2,13 +2,13 @@
 use crate::outcome::ERRORS;
 use crate::outcome::OUTPUT;
 use crate::outcome::Outcome;
-use crate::outcome::finish;
+use crate::outcome::fail;
+use crate::outcome::outcome_if;
+use crate::outcome::say_text;
+use text::both;
 use text::bytes::same;
 use text::numbers::Number;
-use text::out::Out;
-use text::out::end_line;
-use text::out::put;
-use text::out::to;
+use text::out::tell_padded;
 
 // What a call asks for.
 pub enum Command {
@@ -82,104 +82,95 @@ pub fn count_right(command: Command, count: usize) -> bool {
     }
 }
 
-// How a command is called.
-fn put_form(buffer: &mut [u8], out: Out, command: Command) -> Out {
+// How a command is called, with blanks up to a width; whether it could be written.
+fn tell_form(fd: i32, command: Command, width: usize) -> bool {
     match command {
-        Command::Check => put(buffer, out, b"pf check FILE"),
-        Command::Count => put(buffer, out, b"pf count FILE"),
-        Command::Show => put(buffer, out, b"pf show FILE BLOCK"),
-        Command::Rows => put(buffer, out, b"pf rows FILE"),
-        Command::Make => put(buffer, out, b"pf make ROWS FILE"),
-        Command::Fold => put(buffer, out, b"pf fold FILE [WISH [RESULT]]"),
-        Command::Clocks => put(buffer, out, b"pf clocks FILE [WISH]"),
-        Command::Run => put(buffer, out, b"pf run FILE STEPS VALUES"),
-        Command::Help => put(buffer, out, b"pf help"),
-        Command::Unknown => put(
-            buffer,
-            out,
+        Command::Check => tell_padded(fd, b"pf check FILE", width),
+        Command::Count => tell_padded(fd, b"pf count FILE", width),
+        Command::Show => tell_padded(fd, b"pf show FILE BLOCK", width),
+        Command::Rows => tell_padded(fd, b"pf rows FILE", width),
+        Command::Make => tell_padded(fd, b"pf make ROWS FILE", width),
+        Command::Fold => tell_padded(fd, b"pf fold FILE [WISH [RESULT]]", width),
+        Command::Clocks => tell_padded(fd, b"pf clocks FILE [WISH]", width),
+        Command::Run => tell_padded(fd, b"pf run FILE STEPS VALUES", width),
+        Command::Help => tell_padded(fd, b"pf help", width),
+        Command::Unknown => tell_padded(
+            fd,
             b"pf COMMAND ..., and pf help lists the commands",
+            width,
         ),
     }
 }
 
-// What a command does.
-fn put_purpose(buffer: &mut [u8], out: Out, command: Command) -> Out {
+// A text on standard output.
+fn put_out(text: &[u8]) -> bool {
+    io::write_all(OUTPUT, text)
+}
+
+// What a command does, and the end of its line.
+fn tell_purpose(command: Command) -> bool {
     match command {
-        Command::Check => put(buffer, out, b"whether the netlist file is accepted"),
-        Command::Count => put(
-            buffer,
-            out,
-            b"its nodes, inputs, registers, X registers and outputs",
-        ),
-        Command::Show => put(buffer, out, b"the 504 row bytes of a block"),
-        Command::Rows => put(buffer, out, b"its rows as text: number kind reset a b c"),
-        Command::Make => put(buffer, out, b"a netlist file from such text"),
-        Command::Fold => put(
-            buffer,
-            out,
-            b"folds it into WISH phases, 1 to 8; 0 or none lets it choose",
-        ),
-        Command::Clocks => put(
-            buffer,
-            out,
-            b"the clocks of that fold, drawn phase by phase",
-        ),
-        Command::Run => put(
-            buffer,
-            out,
-            b"runs it on values 0 and 1; a line of outputs a step",
-        ),
-        Command::Help => put(buffer, out, b"these lines"),
-        Command::Unknown => put(buffer, out, b"no command"),
+        Command::Check => put_out(b"whether the netlist file is accepted\n"),
+        Command::Count => put_out(b"its nodes, inputs, registers, X registers and outputs\n"),
+        Command::Show => put_out(b"the 504 row bytes of a block\n"),
+        Command::Rows => put_out(b"its rows as text: number kind reset a b c\n"),
+        Command::Make => put_out(b"a netlist file from such text\n"),
+        Command::Fold => {
+            put_out(b"folds it into WISH phases, 1 to 8; 0 or none lets it choose\n")
+        }
+        Command::Clocks => put_out(b"the clocks of that fold, drawn phase by phase\n"),
+        Command::Run => put_out(b"runs it on values 0 and 1; a line of outputs a step\n"),
+        _ => put_out(b"these lines\n"),
     }
 }
 
 // The line of a command, its purpose in column 30.
-fn put_help(buffer: &mut [u8], out: Out, command: Command) -> Out {
-    let start = out.waiting;
-    let formed = put_form(buffer, out, command);
-    let size = std::num::wrapping_sub_usize(formed.waiting, start);
-    let blanks = std::num::wrapping_sub_usize(30, text::bytes::least(size, 30));
-    let padded = text::out::pad(buffer, formed, blanks);
-    let told = put_purpose(buffer, padded, command);
-    put(buffer, told, b"\n")
+fn tell_help(command: Command) -> bool {
+    let formed = tell_form(OUTPUT, command, 30);
+    let told = tell_purpose(command);
+    both(formed, told)
 }
 
 // Help on the commands that look at a file.
-fn put_help_of_files(buffer: &mut [u8], out: Out) -> Out {
-    let checked = put_help(buffer, out, Command::Check);
-    let counted = put_help(buffer, checked, Command::Count);
-    let shown = put_help(buffer, counted, Command::Show);
-    put_help(buffer, shown, Command::Rows)
+fn tell_help_of_files() -> bool {
+    let checked = tell_help(Command::Check);
+    let counted = tell_help(Command::Count);
+    let shown = tell_help(Command::Show);
+    let listed = tell_help(Command::Rows);
+    both(both(checked, counted), both(shown, listed))
 }
 
 // Help on those that make something of it.
-fn put_help_of_work(buffer: &mut [u8], out: Out) -> Out {
-    let made = put_help(buffer, out, Command::Make);
-    let folded = put_help(buffer, made, Command::Fold);
-    let drawn = put_help(buffer, folded, Command::Clocks);
-    put_help(buffer, drawn, Command::Run)
+fn tell_help_of_work() -> bool {
+    let made = tell_help(Command::Make);
+    let folded = tell_help(Command::Fold);
+    let drawn = tell_help(Command::Clocks);
+    let ran = tell_help(Command::Run);
+    both(both(made, folded), both(drawn, ran))
+}
+
+// Help on help, and the exit statuses.
+fn tell_last_lines() -> bool {
+    let helped = tell_help(Command::Help);
+    let ended = put_out(
+        b"exit status: 0 done, 1 refused (refused NUMBER PLACE), 2 a wrong call, or a file that cannot be read or written\n",
+    );
+    both(helped, ended)
 }
 
 // All commands, and the exit statuses.
-pub fn help(buffer: &mut [u8]) -> Outcome {
-    let files = put_help_of_files(buffer, to(OUTPUT));
-    let work = put_help_of_work(buffer, files);
-    let lines = put_help(buffer, work, Command::Help);
-    let out = put(
-        buffer,
-        lines,
-        b"exit status: 0 done, 1 refused (refused NUMBER PLACE), 2 a wrong call, or a file that cannot be read or written\n",
-    );
-    finish(buffer, out, Outcome::Done)
+pub fn help() -> Outcome {
+    let files = tell_help_of_files();
+    let work = tell_help_of_work();
+    let last = tell_last_lines();
+    outcome_if(both(both(files, work), last), Outcome::Done)
 }
 
 // The right form of the call, on standard error.
-pub fn wrong_call(buffer: &mut [u8], command: Command) -> Outcome {
-    let begun = put(buffer, to(ERRORS), b"wrong call, the form is: ");
-    let out = put_form(buffer, begun, command);
-    end_line(buffer, out);
-    Outcome::Failed
+pub fn wrong_call(command: Command) -> Outcome {
+    say_text(b"wrong call, the form is: ");
+    tell_form(ERRORS, command, 0);
+    fail(b"\n")
 }
 
 // The wish: the word after the file, if there is one; else 0.

@@ -1,60 +1,52 @@
 // A refusal told: its line on standard output, and on standard error a sentence that says what is wrong where, with the values seen.
-use crate::blocks::put_block_cause;
-use crate::outcome::ERRORS;
+use crate::blocks::say_block_cause;
 use crate::outcome::Outcome;
+use crate::outcome::say;
+use crate::outcome::say_text;
 use crate::outcome::tell_refusal;
-use crate::row_causes::put_row_cause;
+use crate::row_causes::say_row_cause;
 use listing::rows::fields_of;
 use listing::rows::last_block;
 use listing::rows::row_count;
 use phasefold::foreign::PfRefusal;
-use text::out::Out;
-use text::out::end_line;
-use text::out::put;
-use text::out::put_named;
-use text::out::put_number;
-use text::out::to;
+use text::out::one;
+use text::out::two;
 
 const MOST_FILE_BYTES: usize = 65536;
 
 // 1
-fn put_length(buffer: &mut [u8], out: Out, file: &[u8]) -> Out {
+fn say_length(file: &[u8]) {
     let size = file.len();
     if MOST_FILE_BYTES < size {
-        return put(
-            buffer,
-            out,
-            b"the file has more than 65536 bytes, and a netlist file has 1 to 128 blocks of 512",
-        );
+        say_text(b"the file has more than 65536");
+    } else {
+        say(b"the file has #", one(size));
     }
-    let sized = put_named(buffer, out, b"the file has ", size);
-    put(
-        buffer,
-        sized,
-        b" bytes, and a netlist file has 1 to 128 blocks of 512",
-    )
+    say_text(b" bytes, and a netlist file has 1 to 128 blocks of 512");
 }
 
 // 11
-fn put_many_rows(buffer: &mut [u8], out: Out, file: &[u8]) -> Out {
-    let counted = put_number(buffer, out, row_count(file));
-    put(
-        buffer,
-        counted,
-        b" rows, and a netlist that is folded has at most 1008",
-    )
+fn say_many_rows(file: &[u8]) {
+    let rows = row_count(file);
+    say(
+        b"# rows, and a netlist that is folded has at most 1008",
+        one(rows),
+    );
+}
+
+// How many registers an accepted file has.
+fn register_count(file: &[u8]) -> usize {
+    let counts = phasefold::foreign::pf_count(file);
+    counts.registers as usize
 }
 
 // 12
-fn put_many_registers(buffer: &mut [u8], out: Out, file: &[u8]) -> Out {
-    let counts = phasefold::foreign::pf_count(file);
-    let registers = counts.registers as usize;
-    let counted = put_number(buffer, out, registers);
-    put(
-        buffer,
-        counted,
-        b" registers, and a netlist that is folded has at most 256",
-    )
+fn say_many_registers(file: &[u8]) {
+    let registers = register_count(file);
+    say(
+        b"# registers, and a netlist that is folded has at most 256",
+        one(registers),
+    );
 }
 
 // The phase of an input or an output.
@@ -65,82 +57,73 @@ fn phase_of(file: &[u8], row: usize) -> usize {
 }
 
 // 13
-fn put_phase(buffer: &mut [u8], out: Out, file: &[u8], row: usize) -> Out {
-    let placed = put_named(buffer, out, b"row ", row);
-    let seen = put_named(buffer, placed, b": phase ", phase_of(file, row));
-    put(
-        buffer,
-        seen,
-        b", and every phase of a netlist that is folded is 0",
-    )
+fn say_phase(file: &[u8], row: usize) {
+    let phase = phase_of(file, row);
+    say(
+        b"row #: phase #, and every phase of a netlist that is folded is 0",
+        two(row, phase),
+    );
 }
 
-// A word of the call and what is wrong with it: 14, 17.
-fn put_word(buffer: &mut [u8], out: Out, before: &[u8], word: &[u8], after: &[u8]) -> Out {
-    let begun = put(buffer, out, before);
-    let seen = put(buffer, begun, word);
-    put(buffer, seen, after)
+// A word of the call and what is wrong with it.
+fn say_word(before: &[u8], word: &[u8], after: &[u8]) {
+    say_text(before);
+    say_text(word);
+    say_text(after);
 }
 
 // 21
-fn put_no_block(buffer: &mut [u8], out: Out, file: &[u8], word: &[u8]) -> Out {
-    let seen = put_word(
-        buffer,
-        out,
-        b"there is no block ",
-        word,
-        b", the last one is ",
-    );
-    put_number(buffer, seen, last_block(file))
+fn say_no_block(file: &[u8], word: &[u8]) {
+    say_word(b"there is no block ", word, b", the last one is ");
+    say(b"#", one(last_block(file)));
+}
+
+// 14, 17 and 21, on the word that was given with the call.
+fn say_word_cause(file: &[u8], number: u32, word: &[u8]) {
+    match number {
+        14 => say_word(b"the wish ", word, b" is not 0 to 8"),
+        17 => say_word(b"", word, b" steps, and a run has at most 4096"),
+        _ => say_no_block(file, word),
+    }
+}
+
+// 10, 15 and 16.
+fn say_plain_cause(number: u32) {
+    match number {
+        10 => say_text(b"there is no output"),
+        16 => {
+            say_text(b"states 0 to 256 of the three-valued run all differ, so there is no lasso");
+        }
+        _ => say_text(b"the memory that is lent is too small"),
+    }
 }
 
 // 10 to 17, and 21.
-fn put_other_cause(
-    buffer: &mut [u8],
-    out: Out,
-    file: &[u8],
-    number: u32,
-    place: usize,
-    word: &[u8],
-) -> Out {
+fn say_other_cause(file: &[u8], number: u32, place: usize, word: &[u8]) {
     match number {
-        10 => put(buffer, out, b"there is no output"),
-        11 => put_many_rows(buffer, out, file),
-        12 => put_many_registers(buffer, out, file),
-        13 => put_phase(buffer, out, file, place),
-        14 => put_word(buffer, out, b"the wish ", word, b" is not 0 to 8"),
-        16 => put(
-            buffer,
-            out,
-            b"states 0 to 256 of the three-valued run all differ, so there is no lasso",
-        ),
-        17 => put_word(
-            buffer,
-            out,
-            b"",
-            word,
-            b" steps, and a run has at most 4096",
-        ),
-        21 => put_no_block(buffer, out, file, word),
-        _ => put(buffer, out, b"the memory that is lent is too small"),
+        11 => say_many_rows(file),
+        12 => say_many_registers(file),
+        13 => say_phase(file, place),
+        14 | 17 | 21 => say_word_cause(file, number, word),
+        _ => say_plain_cause(number),
     }
 }
 
 // All but 18 to 20; `word` is the number that was given with the call.
-fn put_cause(buffer: &mut [u8], file: &[u8], number: u32, place: usize, word: &[u8]) -> Out {
+fn say_cause(file: &[u8], number: u32, place: usize, word: &[u8]) {
     match number {
-        1 => put_length(buffer, to(ERRORS), file),
-        2..=5 => put_block_cause(buffer, to(ERRORS), file, number, place),
-        6..=9 => put_row_cause(buffer, to(ERRORS), file, number, place),
-        _ => put_other_cause(buffer, to(ERRORS), file, number, place, word),
+        1 => say_length(file),
+        2..=5 => say_block_cause(file, number, place),
+        6..=9 => say_row_cause(file, number, place),
+        _ => say_other_cause(file, number, place, word),
     }
 }
 
 // A refusal is told.
-pub fn refuse(buffer: &mut [u8], file: &[u8], refusal: PfRefusal, word: &[u8]) -> Outcome {
-    let outcome = tell_refusal(buffer, refusal);
+pub fn refuse(file: &[u8], refusal: PfRefusal, word: &[u8]) -> Outcome {
+    let outcome = tell_refusal(refusal);
     let place = refusal.place as usize;
-    let out = put_cause(buffer, file, refusal.number, place, word);
-    end_line(buffer, out);
+    say_cause(file, refusal.number, place, word);
+    say_text(b"\n");
     outcome
 }

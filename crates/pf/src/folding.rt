@@ -1,6 +1,4 @@
 // Fold, its answers and clocks as lines, and its clocks drawn.
-ghost use mathlib.Core.Path.{_≡_};
-ghost use lib.ListN.{length};
 use crate::causes::refuse;
 use crate::outcome::OUTPUT;
 use crate::outcome::Outcome;
@@ -9,11 +7,13 @@ use crate::outcome::finish;
 use fold_core::FoldNumbers;
 use fold_core::FoldRefusal;
 use fold_core::Folding;
+use listing::folds::CLOCK_ENTRIES;
 use listing::folds::Entry;
 use listing::folds::entry_of;
 use listing::folds::put_clock;
 use listing::folds::put_entries;
 use listing::folds::put_numbers;
+use listing::folds::work_room;
 use listing::rows::file_bytes;
 use phasefold::foreign::PfRefusal;
 use text::bytes::first;
@@ -24,17 +24,8 @@ use text::out::put;
 use text::out::put_byte;
 use text::out::to;
 
-const CLOCK_ENTRIES: usize = 256;
-
 // Where a drawing begins in its line.
 const COLUMN: usize = 22;
-
-// Work for a fold.
-fn work_room() -> [u8; 49152]
-    ensures { λ r. ⌜ 49152 ≡ length r ⌝ }
-{
-    [0; 49152]
-}
 
 // ---- refusals
 
@@ -50,11 +41,17 @@ fn refusal_of(refusal: FoldRefusal) -> PfRefusal {
 
 // ---- the answers
 
-// The lines of a fold.
-fn tell_fold(buffer: &mut [u8], numbers: FoldNumbers, work: &[u8]) -> Outcome {
+// The answers, and the clocks' entries.
+fn put_fold(buffer: &mut [u8], numbers: FoldNumbers, work: &[u8]) -> Out {
     let answered = put_numbers(buffer, to(OUTPUT), numbers);
-    let out = put_entries(buffer, answered, work, numbers.used);
-    finish(buffer, out, Outcome::Done)
+    put_entries(buffer, answered, work, numbers.used)
+}
+
+// The lines of a fold.
+fn tell_fold(numbers: FoldNumbers, work: &[u8]) -> Outcome {
+    let mut room = io::large_buffer();
+    let out = put_fold(&mut room, numbers, work);
+    finish(&room, out, Outcome::Done)
 }
 
 // ---- drawings
@@ -86,8 +83,7 @@ fn put_levels(buffer: &mut [u8], out: Out, word: u32, phases: u32) -> Out {
 
 // The phases' numbers, above the drawings.
 fn put_phases(buffer: &mut [u8], out: Out, phases: u32) -> Out {
-    let named = put(buffer, out, b"phase");
-    let begun = pad(buffer, named, 17);
+    let begun = put(buffer, out, b"phase                 ");
     let numbers = first(b"01234567", phases as usize);
     let numbered = put(buffer, begun, numbers);
     put(buffer, numbered, b"\n")
@@ -122,11 +118,17 @@ fn put_all_drawings(buffer: &mut [u8], out: Out, work: &[u8], phases: u32, used:
     }
 }
 
-// The drawing of a fold.
-fn tell_clocks(buffer: &mut [u8], numbers: FoldNumbers, work: &[u8]) -> Outcome {
+// The phases, and the clocks below them.
+fn put_clocks(buffer: &mut [u8], numbers: FoldNumbers, work: &[u8]) -> Out {
     let begun = put_phases(buffer, to(OUTPUT), numbers.phases);
-    let out = put_all_drawings(buffer, begun, work, numbers.phases, numbers.used);
-    finish(buffer, out, Outcome::Done)
+    put_all_drawings(buffer, begun, work, numbers.phases, numbers.used)
+}
+
+// The drawing of a fold.
+fn tell_clocks(numbers: FoldNumbers, work: &[u8]) -> Outcome {
+    let mut room = io::large_buffer();
+    let out = put_clocks(&mut room, numbers, work);
+    finish(&room, out, Outcome::Done)
 }
 
 // ---- the commands
@@ -144,15 +146,9 @@ fn keep(result: &[u8], rows: u32, path: &[u8]) -> bool {
 }
 
 // The lines of a fold whose file is kept.
-fn tell_kept(
-    buffer: &mut [u8],
-    numbers: FoldNumbers,
-    work: &[u8],
-    result: &[u8],
-    path: &[u8],
-) -> Outcome {
+fn tell_kept(numbers: FoldNumbers, work: &[u8], result: &[u8], path: &[u8]) -> Outcome {
     if keep(result, numbers.after, path) {
-        tell_fold(buffer, numbers, work)
+        tell_fold(numbers, work)
     } else {
         Outcome::Failed
     }
@@ -160,7 +156,6 @@ fn tell_kept(
 
 // What is wanted of an accepted fold.
 fn tell_wanted(
-    buffer: &mut [u8],
     wanted: Wanted,
     numbers: FoldNumbers,
     work: &[u8],
@@ -168,78 +163,46 @@ fn tell_wanted(
     path: &[u8],
 ) -> Outcome {
     match wanted {
-        Wanted::Answers => tell_fold(buffer, numbers, work),
-        Wanted::Kept => tell_kept(buffer, numbers, work, result, path),
-        Wanted::Clocks => tell_clocks(buffer, numbers, work),
+        Wanted::Answers => tell_fold(numbers, work),
+        Wanted::Kept => tell_kept(numbers, work, result, path),
+        Wanted::Clocks => tell_clocks(numbers, work),
     }
 }
 
-// The fold in the lent memory, or the refusal.
-fn fold_into(
-    buffer: &mut [u8],
-    wanted: Wanted,
-    file: &[u8],
-    wish: u32,
-    word: &[u8],
-    path: &[u8],
-    result: &mut [u8],
-    work: &mut [u8],
-) -> Outcome {
-    match fold_core::fold_core(file, wish, result, work, CLOCK_ENTRIES) {
-        Folding::Done(numbers) => tell_wanted(buffer, wanted, numbers, work, result, path),
-        Folding::Refused(refusal) => refuse(buffer, file, refusal_of(refusal), word),
-    }
+// The fold in the lent memory.
+fn fold_into(file: &[u8], wish: u32, result: &mut [u8], work: &mut [u8]) -> Folding {
+    fold_core::fold_core(file, wish, result, work, CLOCK_ENTRIES)
 }
 
-// The fold by this wish.
-fn fold_by(
-    buffer: &mut [u8],
-    wanted: Wanted,
-    file: &[u8],
-    wish: u32,
-    word: &[u8],
-    path: &[u8],
-) -> Outcome {
+// The fold by this wish, or the refusal.
+fn fold_by(wanted: Wanted, file: &[u8], wish: u32, word: &[u8], path: &[u8]) -> Outcome {
     let mut result = io::large_buffer();
     let mut work = work_room();
-    fold_into(
-        buffer,
-        wanted,
-        file,
-        wish,
-        word,
-        path,
-        &mut result,
-        &mut work,
-    )
+    match fold_into(file, wish, &mut result, &mut work) {
+        Folding::Done(numbers) => tell_wanted(wanted, numbers, &work, &result, path),
+        Folding::Refused(refusal) => refuse(file, refusal_of(refusal), word),
+    }
 }
 
 // The wish is the number that the word has, if it is given.
-fn fold_wanted(
-    buffer: &mut [u8],
-    wanted: Wanted,
-    count: usize,
-    file: &[u8],
-    word: &[u8],
-    path: &[u8],
-) -> Outcome {
+fn fold_wanted(wanted: Wanted, count: usize, file: &[u8], word: &[u8], path: &[u8]) -> Outcome {
     match crate::call::wish_of(count, word) {
-        Number::Is(wish) => fold_by(buffer, wanted, file, wish, word, path),
-        Number::Not => fail_at(buffer, word, b": the wish is not a number"),
+        Number::Is(wish) => fold_by(wanted, file, wish, word, path),
+        Number::Not => fail_at(word, b": the wish is not a number\n"),
     }
 }
 
 // The file, the wish, and where the result is kept; the last two may be left out.
-pub fn fold(buffer: &mut [u8], count: usize, file: &[u8], word: &[u8], path: &[u8]) -> Outcome {
+pub fn fold(count: usize, file: &[u8], word: &[u8], path: &[u8]) -> Outcome {
     let wanted = if count < 3 {
         Wanted::Answers
     } else {
         Wanted::Kept
     };
-    fold_wanted(buffer, wanted, count, file, word, path)
+    fold_wanted(wanted, count, file, word, path)
 }
 
 // The file and the wish, which may be left out.
-pub fn clocks(buffer: &mut [u8], count: usize, file: &[u8], word: &[u8]) -> Outcome {
-    fold_wanted(buffer, Wanted::Clocks, count, file, word, b"")
+pub fn clocks(count: usize, file: &[u8], word: &[u8]) -> Outcome {
+    fold_wanted(Wanted::Clocks, count, file, word, b"")
 }

@@ -2,9 +2,8 @@
 use listing::refusals::put_refusal;
 use phasefold::foreign::PfRefusal;
 use text::out::Out;
-use text::out::end_line;
 use text::out::flush;
-use text::out::put;
+use text::out::tell;
 use text::out::to;
 
 // Done, refused, or failed: a wrong call, or a file that cannot be read or written.
@@ -31,38 +30,56 @@ pub fn tell_status(outcome: Outcome) {
     ;
 }
 
-// A sentence on standard error.
-pub fn fail(buffer: &mut [u8], sentence: &[u8]) -> Outcome {
-    let out = put(buffer, to(ERRORS), sentence);
-    end_line(buffer, out);
+// ---- standard error
+
+// A text, as it is.
+pub fn say_text(text: &[u8]) {
+    io::write_all(ERRORS, text);
+}
+
+// A sentence with its numbers.
+pub fn say(sentence: &[u8], numbers: [usize; 6]) {
+    tell(ERRORS, sentence, numbers);
+}
+
+// A sentence.
+pub fn fail(sentence: &[u8]) -> Outcome {
+    say_text(sentence);
     Outcome::Failed
 }
 
-// A word of the call or a file's name, and what is wrong with it, on standard error.
-pub fn fail_at(buffer: &mut [u8], word: &[u8], wrong: &[u8]) -> Outcome {
-    let named = put(buffer, to(ERRORS), word);
-    let out = put(buffer, named, wrong);
-    end_line(buffer, out);
-    Outcome::Failed
+// A word of the call or a file's name, and what is wrong with it.
+pub fn fail_at(word: &[u8], wrong: &[u8]) -> Outcome {
+    say_text(word);
+    fail(wrong)
 }
+
+// ---- standard output
 
 // The outcome, if all output went well.
-fn outcome_if(buffer: &mut [u8], right: bool, outcome: Outcome) -> Outcome {
+pub fn outcome_if(right: bool, outcome: Outcome) -> Outcome {
     if right {
         outcome
     } else {
-        fail(buffer, b"standard output cannot be written")
+        fail(b"standard output cannot be written\n")
     }
 }
 
 // What waits for standard output is written.
-pub fn finish(buffer: &mut [u8], out: Out, outcome: Outcome) -> Outcome {
+pub fn finish(buffer: &[u8], out: Out, outcome: Outcome) -> Outcome {
     let empty = flush(buffer, out);
-    outcome_if(buffer, empty.right, outcome)
+    outcome_if(empty.right, outcome)
 }
 
-// The line of a refusal on standard output.
-pub fn tell_refusal(buffer: &mut [u8], refusal: PfRefusal) -> Outcome {
-    let out = put_refusal(buffer, to(OUTPUT), refusal.number, refusal.place);
-    finish(buffer, out, Outcome::Refused)
+// A sentence with its numbers, and then the call is done.
+pub fn done_with(sentence: &[u8], numbers: [usize; 6]) -> Outcome {
+    let right = tell(OUTPUT, sentence, numbers);
+    outcome_if(right, Outcome::Done)
+}
+
+// The line of a refusal.
+pub fn tell_refusal(refusal: PfRefusal) -> Outcome {
+    let mut room = io::buffer();
+    let out = put_refusal(&mut room, to(OUTPUT), refusal.number, refusal.place);
+    finish(&room, out, Outcome::Refused)
 }

@@ -1,10 +1,11 @@
 // The rows of a text: a line a row, with its number, kind, reset, a, b and c; blank lines and lines that start with # say nothing.
-ghost use Prim.Native.Nat.{_^_, _<_, _≤_};
-ghost use lib.ListN.{length};
+ghost use Prim.Native.Nat.{_^_, _<_};
 ghost use Rattle.blockfile.specs.RowCode.{Small};
 use blockfile::Fields;
 use listing::rows::MOST_ROWS;
 use text::bytes::is_blank;
+use text::bytes::line_end;
+use text::numbers::number_at;
 
 // Larger than every field; a number that is larger still is read as this.
 pub const LARGE: u32 = 65536;
@@ -109,15 +110,6 @@ fn first_byte(line: &[u8]) -> u8 {
     b'#'
 }
 
-// The number in a slot, and 0 past the end.
-pub fn number_at(numbers: &[u32], slot: usize) -> u32 {
-    if slot < numbers.len() {
-        numbers[slot]
-    } else {
-        0
-    }
-}
-
 // Whether a, b and c have 16 bits.
 fn fields_fit(numbers: &[u32]) -> bool {
     if LARGE <= number_at(numbers, 3) {
@@ -209,21 +201,6 @@ fn put_fields(result: &mut [u8], row: usize, numbers: &[u32]) {
 }
 
 // ---- the text
-
-// Where the line that begins at `start` ends.
-fn line_end(text: &[u8], start: usize) -> usize
-    requires { ⌜ start ≤ length (now text) ⌝ }
-    ensures { λ r. ⌜ (start ≤ r) × (r ≤ length (now (text .entry))) ⌝ }
-{
-    let mut end = start;
-    'bytes: while end < text.len() {
-        if text[end] == b'\n' {
-            return end;
-        }
-        end += 1;
-    }
-    end
-}
 
 // A line's row goes to its place.
 fn take_line(line: &[u8], numbers: &mut [u32], rows: usize, result: &mut [u8]) -> Line {

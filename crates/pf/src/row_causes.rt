@@ -1,75 +1,104 @@
 // What is wrong with a row: refusals 6 to 9.
+use crate::outcome::say;
+use crate::outcome::say_text;
 use blockfile::Fields;
 use listing::rows::fields_of;
-use listing::rows::put_kind;
 use listing::rows::row_count;
 use text::bytes::wide;
-use text::out::Out;
-use text::out::put;
-use text::out::put_named;
+use text::out::one;
+use text::out::three;
+use text::out::two;
+
+// The name of a kind.
+fn say_kind(kind: u8) {
+    match kind {
+        0 => say_text(b"constant"),
+        1 => say_text(b"input"),
+        2 => say_text(b"register"),
+        3 => say_text(b"AND"),
+        4 => say_text(b"XOR"),
+        5 => say_text(b"MUX"),
+        _ => say_text(b"output"),
+    }
+}
 
 // ---- 6
 
-// A kind that is not allowed there.
-fn put_kind_cause(buffer: &mut [u8], out: Out, row: usize, kind: u8) -> Out {
-    let seen = put_named(buffer, out, b": kind ", wide(kind));
-    if 6 < kind {
-        return put(buffer, seen, b" is not 0 to 6");
-    }
+// What is wrong with a kind that is 0 to 6.
+fn say_misplaced(row: usize, kind: u8) {
     if row == 0 {
-        return put(buffer, seen, b", and row 0 is the constant, kind 0");
+        say_text(b", and row 0 is the constant, kind 0");
+    } else if kind == 0 {
+        say_text(b", the constant, is for row 0 alone");
+    } else {
+        say_text(b" is a node, and comes after an output");
     }
-    if kind == 0 {
-        return put(buffer, seen, b", the constant, is for row 0 alone");
+}
+
+// A kind that is not allowed there.
+fn say_kind_cause(row: usize, kind: u8) {
+    say(b"row #: kind #", two(row, wide(kind)));
+    if 6 < kind {
+        say_text(b" is not 0 to 6");
+    } else {
+        say_misplaced(row, kind);
     }
-    put(buffer, seen, b" is a node, and comes after an output")
 }
 
 // ---- 7
 
 // A field that the kind does not use.
-fn put_unused_field(buffer: &mut [u8], out: Out, name: &[u8], value: usize, kind: u8) -> Out {
-    let named = put(buffer, out, name);
-    let seen = put_named(buffer, named, b" is ", value);
-    let begun = put(buffer, seen, b", and has no use in kind ");
-    put_kind(buffer, begun, kind)
+fn say_unused_field(row: usize, name: &[u8], value: usize, kind: u8) {
+    say(b"row #: ", one(row));
+    say_text(name);
+    say(b" is #, and has no use in kind ", one(value));
+    say_kind(kind);
 }
 
 // A phase out of range.
-fn put_phase(buffer: &mut [u8], out: Out, phase: usize) -> Out {
-    let seen = put_named(buffer, out, b": phase ", phase);
-    put(buffer, seen, b" is not 0 to 7")
+fn say_phase(row: usize, phase: usize) {
+    say(b"row #: phase # is not 0 to 7", two(row, phase));
 }
 
 // A reset out of range.
-fn put_reset(buffer: &mut [u8], out: Out, reset: u8, kind: u8) -> Out {
+fn say_reset(row: usize, reset: u8, kind: u8) {
+    let value = wide(reset);
     if kind == 2 {
-        let seen = put_named(buffer, out, b": reset ", wide(reset));
-        return put(buffer, seen, b" is not 0, 1 or 2");
+        say(b"row #: reset # is not 0, 1 or 2", two(row, value));
+    } else {
+        say_unused_field(row, b"reset", value, kind);
     }
-    put_unused_field(buffer, out, b": reset", wide(reset), kind)
+}
+
+// A constant's first field that is not 0.
+fn say_constant_field(row: usize, fields: Fields) {
+    if fields.a != 0 {
+        say_unused_field(row, b"a", fields.a, 0);
+    } else if fields.b != 0 {
+        say_unused_field(row, b"b", fields.b, 0);
+    } else {
+        say_unused_field(row, b"c", fields.c, 0);
+    }
+}
+
+// An input's phase, or its field c.
+fn say_input_field(row: usize, fields: Fields) {
+    if 7 < fields.b {
+        say_phase(row, fields.b);
+    } else {
+        say_unused_field(row, b"c", fields.c, 1);
+    }
 }
 
 // The reset is right.
-fn put_field(buffer: &mut [u8], out: Out, fields: Fields) -> Out {
+fn say_field(row: usize, fields: Fields) {
     let kind = fields.kind;
-    if kind == 0 {
-        if fields.a != 0 {
-            return put_unused_field(buffer, out, b": a", fields.a, kind);
-        }
-        if fields.b != 0 {
-            return put_unused_field(buffer, out, b": b", fields.b, kind);
-        }
+    match kind {
+        0 => say_constant_field(row, fields),
+        1 => say_input_field(row, fields),
+        6 => say_phase(row, fields.c),
+        _ => say_unused_field(row, b"c", fields.c, kind),
     }
-    if kind == 1 {
-        if 7 < fields.b {
-            return put_phase(buffer, out, fields.b);
-        }
-    }
-    if kind == 6 {
-        return put_phase(buffer, out, fields.c);
-    }
-    put_unused_field(buffer, out, b": c", fields.c, kind)
 }
 
 // Whether a reset is allowed in this kind.
@@ -78,13 +107,13 @@ fn reset_right(reset: u8, kind: u8) -> bool {
 }
 
 // The first field that is wrong.
-fn put_field_cause(buffer: &mut [u8], out: Out, fields: Fields) -> Out {
+fn say_field_cause(row: usize, fields: Fields) {
     let kind = fields.kind;
     let reset = fields.reset;
     if reset_right(reset, kind) {
-        put_field(buffer, out, fields)
+        say_field(row, fields);
     } else {
-        put_reset(buffer, out, reset, kind)
+        say_reset(row, reset, kind);
     }
 }
 
@@ -130,25 +159,23 @@ fn first_named(file: &[u8], fields: Fields, row: usize) -> usize {
     row
 }
 
-// The phase, unless it is a register.
-fn put_phase_in(buffer: &mut [u8], out: Out, fields: Fields) -> Out {
+// Label and phase; a register has no phase.
+fn say_name(fields: Fields) {
+    let label = label_in(fields);
     if fields.kind == 2 {
-        out
+        say(b" label #", one(label));
     } else {
-        put_named(buffer, out, b" phase ", phase_in(fields))
+        say(b" label # phase #", two(label, phase_in(fields)));
     }
 }
 
 // A name that an earlier row has.
-fn put_label_cause(buffer: &mut [u8], out: Out, file: &[u8], row: usize, fields: Fields) -> Out {
-    let kind = fields.kind;
-    let begun = put(buffer, out, b": ");
-    let kinded = put_kind(buffer, begun, kind);
-    let label = label_in(fields);
-    let labelled = put_named(buffer, kinded, b" label ", label);
-    let phased = put_phase_in(buffer, labelled, fields);
+fn say_label_cause(file: &[u8], row: usize, fields: Fields) {
     let earlier = first_named(file, fields, row);
-    put_named(buffer, phased, b" is taken by row ", earlier)
+    say(b"row #: ", one(row));
+    say_kind(fields.kind);
+    say_name(fields);
+    say(b" is taken by row #", one(earlier));
 }
 
 // ---- 9
@@ -170,41 +197,46 @@ fn wrong_operand(fields: Fields, row: usize) -> usize {
 }
 
 // A gate's operand that is no earlier row.
-fn put_operand(buffer: &mut [u8], out: Out, literal: usize) -> Out {
-    let seen = put_named(buffer, out, b": literal ", literal);
-    let named = put_named(buffer, seen, b" names row ", literal / 2);
-    put(buffer, named, b", and a gate's operands name earlier rows")
+fn say_operand(row: usize, literal: usize) {
+    say(
+        b"row #: literal # names row #, and a gate's operands name earlier rows",
+        three(row, literal, literal / 2),
+    );
 }
 
 // A literal that names no node.
-fn put_named_row(buffer: &mut [u8], out: Out, file: &[u8], literal: usize) -> Out {
-    let seen = put_named(buffer, out, b": literal ", literal);
-    let named = put_named(buffer, seen, b" names row ", literal / 2);
+fn say_named_row(file: &[u8], row: usize, literal: usize) {
     let rows = row_count(file);
-    if literal / 2 < rows {
-        return put(buffer, named, b", which is an output");
+    let named = literal / 2;
+    if named < rows {
+        say(
+            b"row #: literal # names row #, which is an output",
+            three(row, literal, named),
+        );
+    } else {
+        say(
+            b"row #: literal # names row #, and there are # rows",
+            [row, literal, named, rows, 0, 0],
+        );
     }
-    let counted = put_named(buffer, named, b", and there are ", rows);
-    put(buffer, counted, b" rows")
 }
 
 // The first literal that is wrong.
-fn put_literal_cause(buffer: &mut [u8], out: Out, file: &[u8], row: usize, fields: Fields) -> Out {
+fn say_literal_cause(file: &[u8], row: usize, fields: Fields) {
     let kind = fields.kind;
     match kind {
-        3..=5 => put_operand(buffer, out, wrong_operand(fields, row)),
-        _ => put_named_row(buffer, out, file, fields.a),
+        3..=5 => say_operand(row, wrong_operand(fields, row)),
+        _ => say_named_row(file, row, fields.a),
     }
 }
 
 // The sentence of a refusal of this number at a row.
-pub fn put_row_cause(buffer: &mut [u8], out: Out, file: &[u8], number: u32, row: usize) -> Out {
-    let placed = put_named(buffer, out, b"row ", row);
+pub fn say_row_cause(file: &[u8], number: u32, row: usize) {
     let fields = fields_of(file, row);
     match number {
-        6 => put_kind_cause(buffer, placed, row, fields.kind),
-        7 => put_field_cause(buffer, placed, fields),
-        8 => put_label_cause(buffer, placed, file, row, fields),
-        _ => put_literal_cause(buffer, placed, file, row, fields),
+        6 => say_kind_cause(row, fields.kind),
+        7 => say_field_cause(row, fields),
+        8 => say_label_cause(file, row, fields),
+        _ => say_literal_cause(file, row, fields),
     }
 }

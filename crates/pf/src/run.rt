@@ -3,11 +3,12 @@ ghost use mathlib.Core.Path.{_≡_};
 ghost use lib.ListN.{length};
 use crate::answers::count_refusal;
 use crate::causes::refuse;
-use crate::outcome::ERRORS;
 use crate::outcome::OUTPUT;
 use crate::outcome::Outcome;
 use crate::outcome::fail_at;
 use crate::outcome::finish;
+use crate::outcome::say;
+use crate::outcome::say_text;
 use crate::outcome::tell_refusal;
 use phasefold::foreign::PfCounts;
 use phasefold::foreign::PfRefusal;
@@ -18,13 +19,10 @@ use text::bytes::rest;
 use text::files::Loaded;
 use text::numbers::Number;
 use text::out::Out;
-use text::out::end_line;
-use text::out::put;
+use text::out::one;
 use text::out::put_byte;
-use text::out::put_named;
-use text::out::put_number;
-use text::out::put_pair;
 use text::out::to;
+use text::out::two;
 
 // Work for a run.
 fn work_room() -> [u8; 16384]
@@ -69,28 +67,15 @@ fn read_values(bytes: &mut [u8], size: usize) -> usize {
 // ---- refusals 18 to 20
 
 // 18
-fn put_lists(buffer: &mut [u8], out: Out, counts: PfCounts, steps: u32, values: &[u8]) -> Out {
+fn say_lists(counts: PfCounts, steps: u32, values: &[u8]) {
     let size = values.len();
     let unknown = counts.unknown as usize;
     let inputs = counts.inputs as usize;
     let times = steps as usize;
-    let seen = put_pair(
-        buffer,
-        out,
-        b"there are ",
-        size,
-        b" values, and should be ",
-        unknown,
+    say(
+        b"there are # values, and should be # for X registers and # for inputs at each of # steps",
+        [size, unknown, inputs, times, 0, 0],
     );
-    let line = put_pair(
-        buffer,
-        seen,
-        b" for X registers and ",
-        inputs,
-        b" for inputs at each of ",
-        times,
-    );
-    put(buffer, line, b" steps")
 }
 
 // The first value that is not 0 or 1.
@@ -106,59 +91,46 @@ fn first_wrong(values: &[u8]) -> usize {
 }
 
 // A byte as itself, if it can be seen.
-fn put_seen(buffer: &mut [u8], out: Out, byte: u8) -> Out {
+fn say_seen(byte: u8) {
+    let character = [byte; 1];
     match byte {
-        33..=126 => put_byte(buffer, out, byte),
-        _ => put(buffer, out, b"no visible character"),
+        33..=126 => say_text(&character),
+        _ => say_text(b"no visible character"),
     }
 }
 
 // 19
-fn put_value(buffer: &mut [u8], out: Out, values: &[u8]) -> Out {
+fn say_value(values: &[u8]) {
     let at = first_wrong(values);
-    let placed = put_named(buffer, out, b"value ", at);
-    let begun = put(buffer, placed, b", counted from 0, is ");
-    let seen = put_seen(buffer, begun, get(values, at));
-    put(buffer, seen, b", and should be 0 or 1")
+    say(b"value #, counted from 0, is ", one(at));
+    say_seen(get(values, at));
+    say_text(b", and should be 0 or 1");
 }
 
 // 20
-fn put_memory(buffer: &mut [u8], out: Out, counts: PfCounts, steps: u32) -> Out {
-    let stepped = put_number(buffer, out, steps as usize);
-    let counted = put_named(buffer, stepped, b" steps of ", counts.outputs as usize);
-    put(
-        buffer,
-        counted,
-        b" outputs are more than the 1048576 values that pf has room for",
-    )
+fn say_memory(counts: PfCounts, steps: u32) {
+    let times = steps as usize;
+    let outputs = counts.outputs as usize;
+    say(
+        b"# steps of # outputs are more than the 1048576 values that pf has room for",
+        two(times, outputs),
+    );
 }
 
 // The sentence of a refusal of this number.
-fn put_run_cause(
-    buffer: &mut [u8],
-    number: u32,
-    counts: PfCounts,
-    steps: u32,
-    values: &[u8],
-) -> Out {
+fn say_run_cause(number: u32, counts: PfCounts, steps: u32, values: &[u8]) {
     match number {
-        18 => put_lists(buffer, to(ERRORS), counts, steps, values),
-        19 => put_value(buffer, to(ERRORS), values),
-        _ => put_memory(buffer, to(ERRORS), counts, steps),
+        18 => say_lists(counts, steps, values),
+        19 => say_value(values),
+        _ => say_memory(counts, steps),
     }
 }
 
 // A run is refused for its values or its memory.
-fn refuse_run(
-    buffer: &mut [u8],
-    refusal: PfRefusal,
-    counts: PfCounts,
-    steps: u32,
-    values: &[u8],
-) -> Outcome {
-    let outcome = tell_refusal(buffer, refusal);
-    let out = put_run_cause(buffer, refusal.number, counts, steps, values);
-    end_line(buffer, out);
+fn refuse_run(refusal: PfRefusal, counts: PfCounts, steps: u32, values: &[u8]) -> Outcome {
+    let outcome = tell_refusal(refusal);
+    say_run_cause(refusal.number, counts, steps, values);
+    say_text(b"\n");
     outcome
 }
 
@@ -193,83 +165,90 @@ fn put_steps(buffer: &mut [u8], values: &[u8], steps: u32, outputs: usize) -> Ou
     finish(buffer, out, Outcome::Done)
 }
 
+// The steps' lines.
+fn tell_steps(values: &[u8], steps: u32, outputs: usize) -> Outcome {
+    let mut room = io::large_buffer();
+    put_steps(&mut room, values, steps, outputs)
+}
+
 // ---- the command
 
 // The run in the lent memory; the first values are for the X registers.
 fn run_into(
-    buffer: &mut [u8],
+    file: &[u8],
+    steps: u32,
+    values: &[u8],
+    unknown: usize,
+    result: &mut [u8],
+) -> PfRefusal {
+    let mut work = work_room();
+    let choices = first(values, unknown);
+    let inputs = rest(values, unknown);
+    phasefold::foreign::pf_run(file, steps, choices, inputs, result, &mut work)
+}
+
+// A run's outputs, or its refusal.
+fn tell_run(
     file: &[u8],
     steps: u32,
     word: &[u8],
     values: &[u8],
     counts: PfCounts,
-    result: &mut [u8],
-    work: &mut [u8],
+    refusal: PfRefusal,
+    result: &[u8],
 ) -> Outcome {
-    let unknown = counts.unknown as usize;
-    let choices = first(values, unknown);
-    let inputs = rest(values, unknown);
-    let refusal = phasefold::foreign::pf_run(file, steps, choices, inputs, result, work);
     let number = refusal.number;
     match number {
-        0 => put_steps(buffer, result, steps, counts.outputs as usize),
-        18..=20 => refuse_run(buffer, refusal, counts, steps, values),
-        _ => refuse(buffer, file, refusal, word),
+        0 => tell_steps(result, steps, counts.outputs as usize),
+        18..=20 => refuse_run(refusal, counts, steps, values),
+        _ => refuse(file, refusal, word),
     }
 }
 
-// The run of an accepted file, or the refusal of another.
-fn run_on(
-    buffer: &mut [u8],
-    file: &[u8],
-    steps: u32,
-    word: &[u8],
-    values: &[u8],
-    result: &mut [u8],
-) -> Outcome {
+// The run of an accepted file.
+fn run_accepted(file: &[u8], steps: u32, word: &[u8], values: &[u8], counts: PfCounts) -> Outcome {
+    let mut room = text::files::long_room();
+    let result: &mut [u8] = &mut room;
+    let unknown = counts.unknown as usize;
+    let refusal = run_into(file, steps, values, unknown, result);
+    tell_run(file, steps, word, values, counts, refusal, result)
+}
+
+// The run on these values, or the refusal of the file.
+fn run_values(file: &[u8], steps: u32, word: &[u8], values: &[u8]) -> Outcome {
     let counts = phasefold::foreign::pf_count(file);
-    if counts.number != 0 {
-        return refuse(buffer, file, count_refusal(counts), word);
+    if counts.number == 0 {
+        run_accepted(file, steps, word, values, counts)
+    } else {
+        refuse(file, count_refusal(counts), word)
     }
-    let mut work = work_room();
-    run_into(buffer, file, steps, word, values, counts, result, &mut work)
 }
 
-// The run on these values.
-fn run_values(buffer: &mut [u8], file: &[u8], steps: u32, word: &[u8], values: &[u8]) -> Outcome {
-    let mut result = text::files::long_room();
-    run_on(buffer, file, steps, word, values, &mut result)
+// The values of the text at the start of the room.
+fn run_text(file: &[u8], steps: u32, word: &[u8], room: &mut [u8], size: usize) -> Outcome {
+    let count = read_values(room, size);
+    run_values(file, steps, word, first(room, count))
 }
 
 // The values are read.
-fn run_from(
-    buffer: &mut [u8],
-    file: &[u8],
-    steps: u32,
-    word: &[u8],
-    path: &[u8],
-    room: &mut [u8],
-) -> Outcome {
+fn run_from(file: &[u8], steps: u32, word: &[u8], path: &[u8], room: &mut [u8]) -> Outcome {
     match text::files::load(path, room) {
-        Loaded::Whole(size) => {
-            let count = read_values(room, size);
-            run_values(buffer, file, steps, word, first(room, count))
-        }
-        Loaded::Longer(_) => fail_at(buffer, path, b": longer than 1048576 bytes"),
+        Loaded::Whole(size) => run_text(file, steps, word, room, size),
+        Loaded::Longer(_) => fail_at(path, b": longer than 1048576 bytes\n"),
         Loaded::Failed => Outcome::Failed,
     }
 }
 
 // The run of this many steps on the values in the file at `path`.
-fn run_steps(buffer: &mut [u8], file: &[u8], steps: u32, word: &[u8], path: &[u8]) -> Outcome {
+fn run_steps(file: &[u8], steps: u32, word: &[u8], path: &[u8]) -> Outcome {
     let mut room = text::files::long_room();
-    run_from(buffer, file, steps, word, path, &mut room)
+    run_from(file, steps, word, path, &mut room)
 }
 
 // The steps are the number that the word has.
-pub fn run(buffer: &mut [u8], file: &[u8], word: &[u8], path: &[u8]) -> Outcome {
+pub fn run(file: &[u8], word: &[u8], path: &[u8]) -> Outcome {
     match text::numbers::read(word) {
-        Number::Is(steps) => run_steps(buffer, file, steps, word, path),
-        Number::Not => fail_at(buffer, word, b": the steps are not a number"),
+        Number::Is(steps) => run_steps(file, steps, word, path),
+        Number::Not => fail_at(word, b": the steps are not a number\n"),
     }
 }

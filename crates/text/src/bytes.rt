@@ -68,3 +68,18 @@ pub fn same(x: &[u8], y: &[u8]) -> bool {
     }
     true
 }
+
+// Where the line that begins at `start` ends.
+pub fn line_end(text: &[u8], start: usize) -> usize
+    requires { ⌜ start ≤ length (now text) ⌝ }
+    ensures { λ r. ⌜ (start ≤ r) × (r ≤ length (now (text .entry))) ⌝ }
+{
+    let mut end = start;
+    'bytes: while end < text.len() {
+        if text[end] == b'\n' {
+            return end;
+        }
+        end += 1;
+    }
+    end
+}

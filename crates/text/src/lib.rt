@@ -3,3 +3,8 @@ pub mod bytes;
 pub mod files;
 pub mod numbers;
 pub mod out;
+
+// Whether both hold.
+pub fn both(x: bool, y: bool) -> bool {
+    if x { y } else { false }
+}

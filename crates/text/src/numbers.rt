@@ -6,7 +6,7 @@ pub enum Number {
     Not,
 }
 
-const LARGEST: u32 = 4294967295;
+pub const LARGEST: u32 = 4294967295;
 
 // The number with one digit more; `most` stands for all that are no smaller.
 pub fn with_digit(value: u32, digit: u8, most: u32) -> u32 {
@@ -16,6 +16,11 @@ pub fn with_digit(value: u32, digit: u8, most: u32) -> u32 {
     } else {
         most
     }
+}
+
+// The number at `at`, and 0 past the end.
+pub fn number_at(numbers: &[u32], at: usize) -> u32 {
+    if at < numbers.len() { numbers[at] } else { 0 }
 }
 
 // Whether a byte is a decimal digit.

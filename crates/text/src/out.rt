@@ -1,4 +1,5 @@
 // Output through a lent buffer, which is written to a descriptor when it is full and at the end.
+use crate::both;
 use crate::bytes::least;
 
 // Where output goes, how many bytes wait in the buffer, and whether every write went well.
@@ -15,11 +16,6 @@ pub fn to(fd: i32) -> Out {
         waiting: 0,
         right: true,
     }
-}
-
-// Whether both hold.
-fn both(x: bool, y: bool) -> bool {
-    if x { y } else { false }
 }
 
 // What waits is written.
@@ -80,24 +76,72 @@ pub fn put_number(buffer: &mut [u8], out: Out, value: usize) -> Out {
     put(buffer, out, &digits[..count])
 }
 
-// A text, and a number behind it.
-pub fn put_named(buffer: &mut [u8], out: Out, text: &[u8], value: usize) -> Out {
-    let named = put(&mut *buffer, out, text);
-    put_number(buffer, named, value)
+// ---- sentences with numbers
+
+// The numbers of a sentence with none, one, two or three.
+pub fn none() -> [usize; 6] {
+    [0; 6]
 }
 
-// Two texts, each with a number behind it.
-pub fn put_pair(
-    buffer: &mut [u8],
-    out: Out,
-    text: &[u8],
-    value: usize,
-    next_text: &[u8],
-    next_value: usize,
-) -> Out {
-    let named = put_named(buffer, out, text, value);
-    put_named(buffer, named, next_text, next_value)
+pub fn one(x: usize) -> [usize; 6] {
+    [x, 0, 0, 0, 0, 0]
 }
+
+pub fn two(x: usize, y: usize) -> [usize; 6] {
+    [x, y, 0, 0, 0, 0]
+}
+
+pub fn three(x: usize, y: usize, z: usize) -> [usize; 6] {
+    [x, y, z, 0, 0, 0]
+}
+
+// A sentence's next number, and 0 past the last.
+fn next_number(numbers: [usize; 6], at: usize) -> usize {
+    if at < 6 { numbers[at] } else { 0 }
+}
+
+// A byte of a sentence, or the number that # stands for.
+fn put_filled_byte(buffer: &mut [u8], out: Out, byte: u8, number: usize) -> Out {
+    if byte == b'#' {
+        put_number(buffer, out, number)
+    } else {
+        put_byte(buffer, out, byte)
+    }
+}
+
+// How many numbers are put, with this byte.
+fn count_filled(count: usize, byte: u8) -> usize {
+    if byte == b'#' {
+        std::num::wrapping_add_usize(count, 1)
+    } else {
+        count
+    }
+}
+
+// A sentence, each # replaced by the next of its numbers.
+pub fn put_filled(buffer: &mut [u8], out: Out, sentence: &[u8], numbers: [usize; 6]) -> Out {
+    let mut now = out;
+    let mut count = 0;
+    let mut i = 0;
+    'bytes: while i < sentence.len() {
+        let byte = sentence[i];
+        let number = next_number(numbers, count);
+        now = put_filled_byte(&mut *buffer, now, byte, number);
+        count = count_filled(count, byte);
+        i += 1;
+    }
+    now
+}
+
+// The same written at once; whether that went well.
+pub fn tell(fd: i32, sentence: &[u8], numbers: [usize; 6]) -> bool {
+    let mut room = io::buffer();
+    let out = put_filled(&mut room, to(fd), sentence, numbers);
+    let empty = flush(&room, out);
+    empty.right
+}
+
+// ---- bytes
 
 // A byte as two hexadecimal digits.
 pub fn put_hex(buffer: &mut [u8], out: Out, byte: u8) -> Out {
@@ -117,9 +161,17 @@ pub fn pad(buffer: &mut [u8], out: Out, count: usize) -> Out {
     now
 }
 
-// A line feed, and what waits is written.
-pub fn end_line(buffer: &mut [u8], out: Out) -> bool {
-    let ended = put_byte(buffer, out, b'\n');
-    let empty = flush(buffer, ended);
+// A text, and blanks up to a width.
+fn put_padded(buffer: &mut [u8], out: Out, text: &[u8], width: usize) -> Out {
+    let begun = put(buffer, out, text);
+    let blanks = width - least(text.len(), width);
+    pad(buffer, begun, blanks)
+}
+
+// The same written at once; whether that went well.
+pub fn tell_padded(fd: i32, text: &[u8], width: usize) -> bool {
+    let mut room = io::buffer();
+    let out = put_padded(&mut room, to(fd), text, width);
+    let empty = flush(&room, out);
     empty.right
 }

@@ -113,13 +113,13 @@ fn change_head(file: &mut [u8], seed: &mut u64, size: usize) {
     let block = roll(seed, size / 512) % 128;
     let at = plus(512 * block, roll(seed, 4));
     let value = roll_u8(seed, 70);
-    crate::bytes::put(file, at, value);
+    text::bytes::put(file, at, value);
     seal(file, block);
 }
 
 // What is changed goes by a number; past 8 it is the last row.
 fn change(file: &mut [u8], seed: &mut u64, size: usize, what: usize) {
-    let rows = reference::rows::rows_of(crate::bytes::part(file, size));
+    let rows = reference::rows::rows_of(text::bytes::first(file, size));
     let at = roll(seed, rows);
     match what {
         0 => flip_any(file, seed, size),

@@ -51,3 +51,11 @@ pub fn near_literal(seed: &mut u64, at: usize) -> u16 {
 pub fn plain(node: usize) -> u16 {
     (2 * (node % 32768)) as u16
 }
+
+// Zeros and ones by chance in the first bytes.
+pub fn put_values(bytes: &mut [u8], seed: &mut u64, count: usize) {
+    'values: for i in 0..count {
+        let value = roll_u8(seed, 2);
+        text::bytes::put(bytes, i, value);
+    }
+}

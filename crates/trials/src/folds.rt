@@ -1,43 +1,32 @@
-// Check and Fold of a file by the product and by the reference: refusals, answers, every byte of the result, clock entries.
+// Fold of a file by the product and by the reference: refusals, answers, every byte of the result, clock entries.
+use crate::files::of_file;
+use crate::files::said;
 use crate::tally::add;
 use crate::tally::hold;
-use accept::Acceptance;
-use accept::FileRefusal;
 use fold_core::FoldRefusal;
 use fold_core::Folding;
 use reference::Folded;
 use reference::Lent;
 use reference::asking::Verdict;
+use text::both;
+use text::bytes::get;
+use text::bytes::same;
 
 // Where the product packs its clock entries.
 const ENTRIES: usize = 16384;
 
-fn said(number: u32, place: u32) -> Verdict {
-    Verdict {
-        number: number,
-        place: place,
-    }
-}
+// What is lent, and what the results hold before.
+pub const RESULT_ROOM: usize = 65600;
 
-fn of_file(refusal: FileRefusal) -> Verdict {
-    match refusal {
-        FileRefusal::Length => said(1, 0),
-        FileRefusal::Sum { block } => said(2, block),
-        FileRefusal::Header { block } => said(3, block),
-        FileRefusal::RowCount { block } => said(4, block),
-        FileRefusal::Unused { block } => said(5, block),
-        FileRefusal::Kind { row } => said(6, row),
-        FileRefusal::Field { row } => said(7, row),
-        FileRefusal::Label { row } => said(8, row),
-        FileRefusal::Literal { row } => said(9, row),
-        FileRefusal::NoOutput => said(10, 0),
-    }
-}
+const WORK_ROOM: usize = 49152;
 
-fn of_check(answer: Acceptance) -> Verdict {
-    match answer {
-        Acceptance::Accepted => said(0, 0),
-        Acceptance::Refused(refusal) => of_file(refusal),
+pub const FILL: u8 = 170;
+
+fn lent_of(clocks: usize) -> Lent {
+    Lent {
+        result: RESULT_ROOM,
+        work: WORK_ROOM,
+        clocks: clocks,
     }
 }
 
@@ -84,11 +73,11 @@ fn of_fold(answer: Folding) -> Folded {
 }
 
 fn same_answer(x: Folded, y: Folded) -> bool {
-    let verdict = x.number == y.number && x.place == y.place;
-    let lasso = x.stem == y.stem && x.cycle == y.cycle;
-    let clocks = x.phases == y.phases && x.used == y.used;
-    let rows = x.before == y.before && x.after == y.after;
-    verdict && lasso && clocks && rows
+    let verdict = both(x.number == y.number, x.place == y.place);
+    let lasso = both(x.stem == y.stem, x.cycle == y.cycle);
+    let clocks = both(x.phases == y.phases, x.used == y.used);
+    let rows = both(x.before == y.before, x.after == y.after);
+    both(both(verdict, lasso), both(clocks, rows))
 }
 
 // ---- clock entries
@@ -98,7 +87,7 @@ fn long(list: &[u32], at: usize) -> u32 {
 }
 
 fn wide(work: &[u8], at: usize) -> u32 {
-    let byte = crate::bytes::get(work, at);
+    let byte = get(work, at);
     byte as u32
 }
 
@@ -118,7 +107,9 @@ fn same_entry(work: &[u8], list: &[u32], entry: usize) -> bool {
     let bits = wide(work, at + 3) == long(list, from + 2);
     let ones = pair(work, at + 4) == long(list, from + 3);
     let rest = pair(work, at + 6) == 0;
-    label && period && bits && ones && rest
+    let named = both(label, period);
+    let told = both(bits, ones);
+    both(both(named, told), rest)
 }
 
 fn same_entries(work: &[u8], list: &[u32], used: usize) -> bool {
@@ -132,54 +123,60 @@ fn same_entries(work: &[u8], list: &[u32], used: usize) -> bool {
 
 // ---- both
 
-pub fn try_check(file: &[u8], tally: &mut [u64]) {
-    let answer = of_check(accept::accept(file));
-    let expected = reference::asking::check(file);
-    let number = answer.number == expected.number;
-    let place = answer.place == expected.place;
-    add(tally, crate::tally::FILES, 1);
-    hold(tally, number && place, crate::tally::CHECKS);
-}
-
-// What both answered and left is counted and compared.
-fn compare(
-    answer: Folded,
-    right: Folded,
-    result: &[u8],
-    expected: &[u8],
-    work: &[u8],
-    list: &[u32],
-    tally: &mut [u64],
-) {
-    let used = right.used as usize;
+// What both answered is counted and compared.
+fn compare_answers(answer: Folded, right: Folded, tally: &mut [u64]) {
     add(tally, crate::tally::FOLDS, 1);
     add(tally, right.number as usize, 1);
-    add(tally, crate::tally::CLOCKS, used);
     hold(tally, same_answer(answer, right), crate::tally::ANSWERS);
-    hold(tally, check::same(result, expected), crate::tally::RESULTS);
+}
+
+fn compare_entries(work: &[u8], list: &[u32], used: usize, tally: &mut [u64]) {
+    add(tally, crate::tally::CLOCKS, used);
     hold(tally, same_entries(work, list, used), crate::tally::ENTRIES);
 }
 
-// Fold by both, each in a result of its own; the two results are the same before, so they show too what a refusal leaves.
+fn fold(file: &[u8], wish: u32, clocks: usize, result: &mut [u8], work: &mut [u8]) -> Folded {
+    of_fold(fold_core::fold_core(file, wish, result, work, clocks))
+}
+
+// Fold by the reference in a result of its own, filled alike; the results' bytes are compared.
+fn fold_again(
+    file: &[u8],
+    wish: u32,
+    clocks: usize,
+    result: &[u8],
+    list: &mut [u32],
+    tally: &mut [u64],
+) -> Folded {
+    let mut room = [FILL; RESULT_ROOM];
+    let expected: &mut [u8] = &mut room;
+    let right = reference::fold(file, wish, lent_of(clocks), expected, list);
+    let alike = same(result, expected);
+    hold(tally, alike, crate::tally::RESULTS);
+    right
+}
+
+// Fold by both. The result is filled before, and so is the reference's: they show too what a refusal leaves.
 pub fn try_fold(
     file: &[u8],
     wish: u32,
     clocks: usize,
     result: &mut [u8],
-    expected: &mut [u8],
     tally: &mut [u64],
 ) -> Folded {
-    let mut works = [0u8; 49152];
+    let mut works = [0u8; WORK_ROOM];
     let mut lists = [0u32; 1024];
     let work: &mut [u8] = &mut works;
     let list: &mut [u32] = &mut lists;
-    let lent = Lent {
-        result: result.len(),
-        work: work.len(),
-        clocks: clocks,
-    };
-    let answer = of_fold(fold_core::fold_core(file, wish, result, work, clocks));
-    let right = reference::fold(file, wish, lent, expected, list);
-    compare(answer, right, result, expected, work, list, tally);
+    let answer = fold(file, wish, clocks, result, work);
+    let right = fold_again(file, wish, clocks, result, list, tally);
+    compare_answers(answer, right, tally);
+    compare_entries(work, list, right.used as usize, tally);
     answer
+}
+
+// The same where the result is of no further use.
+pub fn try_alone(file: &[u8], wish: u32, clocks: usize, tally: &mut [u64]) -> Folded {
+    let mut results = [FILL; RESULT_ROOM];
+    try_fold(file, wish, clocks, &mut results, tally)
 }

@@ -1,8 +1,5 @@
 // A file and its fold run side by side: the outputs are compared phase by phase.
-use crate::bytes::get;
-use crate::bytes::get_word;
-use crate::bytes::part;
-use crate::bytes::put;
+use crate::dice::put_values;
 use crate::dice::roll;
 use crate::pieces::plus;
 use crate::tally::add;
@@ -12,16 +9,26 @@ use reference::rows::count_kind;
 use reference::rows::row_at;
 use reference::rows::rows_of;
 use run_core::RunAnswer;
+use text::both;
+use text::bytes::first;
+use text::bytes::get;
+use text::bytes::put;
+use text::bytes::rest;
+use text::bytes::same;
 
 const MOST_STEPS: usize = 48;
 
 const ROOM: usize = 65536;
 
-// A run of so many steps takes so many groups; a step shows so many inputs and outputs, a group so many others.
+// The choices of 256 registers, and inputs.
+const VALUES_ROOM: usize = 65792;
+
+// A run of so many steps takes so many groups; it starts by so many choices, a step has so many inputs and outputs, a group so many others.
 struct Sizes {
     phases: usize,
     steps: usize,
     groups: usize,
+    unknown: usize,
     inputs: usize,
     outputs: usize,
     group_inputs: usize,
@@ -57,14 +64,29 @@ fn groups_of(steps: usize, phases: usize) -> usize {
 
 // ---- labels
 
+fn get_word(words: &[u16], at: usize) -> u16 {
+    if at < words.len() { words[at] } else { 0 }
+}
+
+fn put_word(words: &mut [u16], at: usize, value: u16) {
+    if at < words.len() {
+        words[at] = value;
+    }
+}
+
 fn label_in(row: Row) -> u16 {
     if row.kind == 1 { row.a } else { row.b }
 }
 
 // Whether the row is of the kind; of registers only those that start unknown.
 fn counted(row: Row, kind: u8) -> bool {
-    let unknown = row.kind != 2 || row.reset == 2;
-    unknown && row.kind == kind
+    if row.kind != kind {
+        return false;
+    }
+    if kind != 2 {
+        return true;
+    }
+    row.reset == 2
 }
 
 fn map_row(row: Row, kind: u8, map: &mut [u16], next: usize) -> usize {
@@ -72,7 +94,7 @@ fn map_row(row: Row, kind: u8, map: &mut [u16], next: usize) -> usize {
         return next;
     }
     let ordinal = (next % 65536) as u16;
-    crate::bytes::put_word(map, label_in(row) as usize, ordinal);
+    put_word(map, label_in(row) as usize, ordinal);
     plus(next, 1)
 }
 
@@ -201,68 +223,103 @@ fn run(file: &[u8], steps: usize, choices: &[u8], inputs: &[u8], shown: &mut [u8
     let mut works = [0u8; 16384];
     let work: &mut [u8] = &mut works;
     let count = (steps % 65536) as u32;
-    let answer = run_core::run_core(file, count, choices, inputs, shown, work);
+    let answer = phasefold::run(file, count, choices, inputs, shown, work);
     match answer {
         RunAnswer::Done => true,
         RunAnswer::Refused(_) => false,
     }
 }
 
-// The file's run by the product and by the reference.
+// The file's run by the product; whether it is the reference's.
 fn try_original(
     file: &[u8],
-    sizes: Sizes,
+    steps: usize,
     choices: &[u8],
     inputs: &[u8],
     shown: &mut [u8],
-    tally: &mut [u64],
-) {
-    let mut rooms = [0u8; ROOM];
-    let again: &mut [u8] = &mut rooms;
-    let done = run(file, sizes.steps, choices, inputs, shown);
-    reference::steps::run(file, sizes.steps, choices, inputs, again);
-    let same = check::same(shown, again);
-    hold(tally, done && same, crate::tally::FILE_RUNS);
+) -> bool {
+    let mut room = [0u8; ROOM];
+    let again: &mut [u8] = &mut room;
+    let done = run(file, steps, choices, inputs, shown);
+    reference::steps::run(file, steps, choices, inputs, again);
+    both(done, same(shown, again))
+}
+
+// What the fold's inputs are given in all groups.
+fn give_inputs(
+    file: &[u8],
+    fold: &[u8],
+    sizes: Sizes,
+    inputs: &[u8],
+    seed: &mut u64,
+    given: &mut [u8],
+) -> usize {
+    let mut maps = [0u16; ROOM];
+    let map: &mut [u16] = &mut maps;
+    let size = times(sizes.groups, sizes.group_inputs);
+    put_values(given, seed, size);
+    map_labels(file, 1, map);
+    fill_inputs(fold, sizes, map, inputs, given);
+    size
+}
+
+// The choices of the fold's registers; the answer is how many.
+fn give_choices(file: &[u8], fold: &[u8], choices: &[u8], picked: &mut [u8]) -> usize {
+    let mut maps = [0u16; ROOM];
+    let map: &mut [u16] = &mut maps;
+    map_labels(file, 2, map);
+    fill_choices(fold, map, choices, picked)
 }
 
 // The fold's run on what the file's run was given.
+fn run_fold(
+    file: &[u8],
+    fold: &[u8],
+    sizes: Sizes,
+    values: &[u8],
+    seed: &mut u64,
+    folded: &mut [u8],
+) -> bool {
+    let mut chosen = [0u8; 256];
+    let mut lists = [0u8; ROOM];
+    let picked: &mut [u8] = &mut chosen;
+    let given: &mut [u8] = &mut lists;
+    let inputs = rest(values, sizes.unknown);
+    let size = give_inputs(file, fold, sizes, inputs, seed, given);
+    let count = give_choices(file, fold, values, picked);
+    run(
+        fold,
+        sizes.groups,
+        first(picked, count),
+        first(given, size),
+        folded,
+    )
+}
+
+// Whether file and fold show the same.
+fn same_runs(file: &[u8], fold: &[u8], sizes: Sizes, shown: &[u8], folded: &[u8]) -> bool {
+    let mut maps = [0u16; ROOM];
+    let map: &mut [u16] = &mut maps;
+    map_labels(file, 6, map);
+    same_shown(fold, sizes, map, shown, folded)
+}
+
 fn try_folded(
     file: &[u8],
     fold: &[u8],
     sizes: Sizes,
-    choices: &[u8],
-    inputs: &[u8],
+    values: &[u8],
     shown: &[u8],
     seed: &mut u64,
-    tally: &mut [u64],
-) {
-    let mut maps = [0u16; ROOM];
-    let mut chosen = [0u8; 256];
-    let mut lists = [0u8; ROOM];
-    let mut rooms = [0u8; ROOM];
-    let map: &mut [u16] = &mut maps;
-    let picked: &mut [u8] = &mut chosen;
-    let given: &mut [u8] = &mut lists;
-    let folded: &mut [u8] = &mut rooms;
-    let size = times(sizes.groups, sizes.group_inputs);
-    crate::bytes::put_values(given, seed, size);
-    map_labels(file, 1, map);
-    fill_inputs(fold, sizes, map, inputs, given);
-    map_labels(file, 2, map);
-    let count = fill_choices(fold, map, choices, picked);
-    let done = run(
-        fold,
-        sizes.groups,
-        part(picked, count),
-        part(given, size),
-        folded,
-    );
-    map_labels(file, 6, map);
-    let same = same_shown(fold, sizes, map, shown, folded);
-    hold(tally, done && same, crate::tally::FOLD_RUNS);
+) -> bool {
+    let mut room = [0u8; ROOM];
+    let folded: &mut [u8] = &mut room;
+    let done = run_fold(file, fold, sizes, values, seed, folded);
+    let alike = same_runs(file, fold, sizes, shown, folded);
+    both(done, alike)
 }
 
-fn unknown_in(file: &[u8]) -> usize {
+pub fn unknown_in(file: &[u8]) -> usize {
     let rows = rows_of(file);
     let mut count: usize = 0;
     'rows: for at in 0..rows {
@@ -280,6 +337,7 @@ fn sizes_of(file: &[u8], fold: &[u8], steps: usize, phases: usize) -> Sizes {
         phases: phases,
         steps: steps,
         groups: groups_of(steps, phases),
+        unknown: unknown_in(file),
         inputs: count_kind(file, rows, 1),
         outputs: count_kind(file, rows, 6),
         group_inputs: count_kind(fold, fold_rows, 1),
@@ -287,24 +345,46 @@ fn sizes_of(file: &[u8], fold: &[u8], steps: usize, phases: usize) -> Sizes {
     }
 }
 
-// One run of both, by chance.
-pub fn try_run(file: &[u8], fold: &[u8], phases: usize, seed: &mut u64, tally: &mut [u64]) {
-    let mut chosen = [0u8; 256];
-    let mut lists = [0u8; ROOM];
-    let mut rooms = [0u8; ROOM];
-    let choices: &mut [u8] = &mut chosen;
-    let inputs: &mut [u8] = &mut lists;
-    let shown: &mut [u8] = &mut rooms;
-    let steps = any_steps(seed, phases);
-    let sizes = sizes_of(file, fold, steps, phases);
-    let unknown = unknown_in(file);
-    let size = times(steps, sizes.inputs);
-    crate::bytes::put_values(choices, seed, unknown);
-    crate::bytes::put_values(inputs, seed, size);
-    let picked = part(choices, unknown);
-    let given = part(inputs, size);
-    try_original(file, sizes, picked, given, shown, tally);
-    try_folded(file, fold, sizes, picked, given, shown, seed, tally);
+// Whether the run of the file is right, and that of the fold.
+struct Right {
+    file: bool,
+    fold: bool,
+}
+
+// Both on these values, the choices first.
+fn try_both(file: &[u8], fold: &[u8], sizes: Sizes, values: &[u8], seed: &mut u64) -> Right {
+    let mut room = [0u8; ROOM];
+    let shown: &mut [u8] = &mut room;
+    let choices = first(values, sizes.unknown);
+    let inputs = rest(values, sizes.unknown);
+    let original = try_original(file, sizes.steps, choices, inputs, shown);
+    let folded = try_folded(file, fold, sizes, values, shown, seed);
+    Right {
+        file: original,
+        fold: folded,
+    }
+}
+
+// Choices and inputs by chance.
+fn try_sized(file: &[u8], fold: &[u8], sizes: Sizes, seed: &mut u64) -> Right {
+    let mut lists = [0u8; VALUES_ROOM];
+    let values: &mut [u8] = &mut lists;
+    let size = plus(sizes.unknown, times(sizes.steps, sizes.inputs));
+    put_values(values, seed, size);
+    try_both(file, fold, sizes, first(values, size), seed)
+}
+
+fn count_run(steps: usize, right: Right, tally: &mut [u64]) {
     add(tally, crate::tally::RUNS, 1);
     add(tally, crate::tally::STEPS, steps);
+    hold(tally, right.file, crate::tally::FILE_RUNS);
+    hold(tally, right.fold, crate::tally::FOLD_RUNS);
+}
+
+// One run of both, over a number of steps by chance.
+pub fn try_run(file: &[u8], fold: &[u8], phases: usize, seed: &mut u64, tally: &mut [u64]) {
+    let steps = any_steps(seed, phases);
+    let sizes = sizes_of(file, fold, steps, phases);
+    let right = try_sized(file, fold, sizes, seed);
+    count_run(steps, right, tally);
 }

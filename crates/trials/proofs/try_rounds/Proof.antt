@@ -8,10 +8,10 @@ use Rattle.trials.proofs.try_rounds.Statement.{statement}
 use Rattle.trials.proofs.try_rounds.Tie as tie
 
 abbrev Inv-rounds : tie.InvT-rounds
-Inv-rounds file₀ result₀ expected₀ tally₀ seed₀ end round₀ file result expected tally seed round = (length file ≡ length file₀) × (length result ≡ length result₀) × (length expected ≡ length expected₀) × (length tally ≡ length tally₀)
+Inv-rounds tally₀ seed₀ end round₀ tally seed round = (length tally ≡ length tally₀)
 
 abbrev μ-rounds : tie.MeasureT-rounds
-μ-rounds file₀ result₀ expected₀ tally₀ seed₀ end round₀ file result expected tally seed round = end - round
+μ-rounds tally₀ seed₀ end round₀ tally seed round = end - round
 
 rounds-holds : tie.Need-rounds-holds Inv-rounds μ-rounds
 rounds-holds c = search needs
@@ -31,15 +31,6 @@ rounds-again c = search needs
 same-length : tie.Need-same-length Inv-rounds μ-rounds
 same-length c = search needs
 
-same-length-2 : tie.Need-same-length-2 Inv-rounds μ-rounds
-same-length-2 c = search needs
-
-same-length-3 : tie.Need-same-length-3 Inv-rounds μ-rounds
-same-length-3 c = search needs
-
-same-length-4 : tie.Need-same-length-4 Inv-rounds μ-rounds
-same-length-4 c = search needs
-
 returns : tie.Need-returns Inv-rounds μ-rounds
 returns c = search needs
 
@@ -55,7 +46,4 @@ try-rounds-spec =
     rounds-less
     rounds-again
     same-length
-    same-length-2
-    same-length-3
-    same-length-4
     returns)

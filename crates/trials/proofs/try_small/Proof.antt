@@ -8,10 +8,10 @@ use Rattle.trials.proofs.try_small.Statement.{statement}
 use Rattle.trials.proofs.try_small.Tie as tie
 
 abbrev Inv-netlists : tie.InvT-netlists
-Inv-netlists file₀ result₀ expected₀ seed₀ tally₀ end i₀ file result expected seed tally i = (length file ≡ length file₀) × (length result ≡ length result₀) × (length expected ≡ length expected₀) × (length tally ≡ length tally₀)
+Inv-netlists seed₀ tally₀ end i₀ seed tally i = (length tally ≡ length tally₀)
 
 abbrev μ-netlists : tie.MeasureT-netlists
-μ-netlists file₀ result₀ expected₀ seed₀ tally₀ end i₀ file result expected seed tally i = end - i
+μ-netlists seed₀ tally₀ end i₀ seed tally i = end - i
 
 netlists-holds : tie.Need-netlists-holds Inv-netlists μ-netlists
 netlists-holds c = search needs
@@ -31,15 +31,6 @@ netlists-again c = search needs
 same-length : tie.Need-same-length Inv-netlists μ-netlists
 same-length c = search needs
 
-same-length-2 : tie.Need-same-length-2 Inv-netlists μ-netlists
-same-length-2 c = search needs
-
-same-length-3 : tie.Need-same-length-3 Inv-netlists μ-netlists
-same-length-3 c = search needs
-
-same-length-4 : tie.Need-same-length-4 Inv-netlists μ-netlists
-same-length-4 c = search needs
-
 returns : tie.Need-returns Inv-netlists μ-netlists
 returns c = search needs
 
@@ -55,7 +46,4 @@ try-small-spec =
     netlists-less
     netlists-again
     same-length
-    same-length-2
-    same-length-3
-    same-length-4
     returns)

@@ -8,10 +8,10 @@ use Rattle.trials.proofs.try_wishes.Statement.{statement}
 use Rattle.trials.proofs.try_wishes.Tie as tie
 
 abbrev Inv-wishes : tie.InvT-wishes
-Inv-wishes file result₀ expected₀ seed₀ tally₀ end wish₀ result expected seed tally wish = (length result ≡ length result₀) × (length expected ≡ length expected₀) × (length tally ≡ length tally₀)
+Inv-wishes file seed₀ tally₀ end wish₀ seed tally wish = (length tally ≡ length tally₀)
 
 abbrev μ-wishes : tie.MeasureT-wishes
-μ-wishes file result₀ expected₀ seed₀ tally₀ end wish₀ result expected seed tally wish = end - wish
+μ-wishes file seed₀ tally₀ end wish₀ seed tally wish = end - wish
 
 wishes-holds : tie.Need-wishes-holds Inv-wishes μ-wishes
 wishes-holds c = search needs
@@ -31,12 +31,6 @@ wishes-again c = search needs
 same-length : tie.Need-same-length Inv-wishes μ-wishes
 same-length c = search needs
 
-same-length-2 : tie.Need-same-length-2 Inv-wishes μ-wishes
-same-length-2 c = search needs
-
-same-length-3 : tie.Need-same-length-3 Inv-wishes μ-wishes
-same-length-3 c = search needs
-
 returns : tie.Need-returns Inv-wishes μ-wishes
 returns c = search needs
 
@@ -52,6 +46,4 @@ try-wishes-spec =
     wishes-less
     wishes-again
     same-length
-    same-length-2
-    same-length-3
     returns)

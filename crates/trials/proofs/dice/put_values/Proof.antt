@@ -4,8 +4,8 @@ use Prim.Native.Nat.{_-_}
 use mathlib.Core.Path.{_≡_}
 use borrow.Author.Needs.{needs}
 use lib.ListN.{length}
-use Rattle.trials.proofs.bytes.put_values.Statement.{statement}
-use Rattle.trials.proofs.bytes.put_values.Tie as tie
+use Rattle.trials.proofs.dice.put_values.Statement.{statement}
+use Rattle.trials.proofs.dice.put_values.Tie as tie
 
 abbrev Inv-values : tie.InvT-values
 Inv-values bytes₀ seed₀ count i₀ bytes seed i = (length bytes ≡ length bytes₀)
