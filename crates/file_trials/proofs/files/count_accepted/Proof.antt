@@ -17,11 +17,11 @@ sizes-holds c = search needs
 add-size : tie.Need-add-size Inv-sizes μ-sizes
 add-size c = search needs
 
-cast-part : tie.Need-cast-part Inv-sizes μ-sizes
-cast-part c = search needs
+cast-first : tie.Need-cast-first Inv-sizes μ-sizes
+cast-first c = search needs
 
-part-requires : tie.Need-part-requires Inv-sizes μ-sizes
-part-requires c κs = search needs
+first-requires : tie.Need-first-requires Inv-sizes μ-sizes
+first-requires c κs = search needs
 
 check-requires : tie.Need-check-requires Inv-sizes μ-sizes
 check-requires c κs = search needs
@@ -52,8 +52,8 @@ count-accepted-spec =
     μ-sizes
     sizes-holds
     add-size
-    cast-part
-    part-requires
+    cast-first
+    first-requires
     check-requires
     of-check-requires
     one-if-requires
