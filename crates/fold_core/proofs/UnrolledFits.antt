@@ -14,9 +14,9 @@ use Rattle.netlist.proofs.RowLaws.{EachRow, each-append, unnamed}
 use Rattle.netlist.proofs.WellFormed.{AcceptedRows}
 use Rattle.netlist.proofs.FileLaws.{row-fits}
 use Rattle.abstraction.specs.Unrolling.{patchNext, unrollPhases, phaseOutputs, unrolledNetlist}
+use Rattle.abstraction.proofs.UnrolledRun.{length-whole}
 use Rattle.abstraction.proofs.Provenance.{Sourced, phase-before, unroll-named, outputs-named}
 use Rattle.abstraction.proofs.FoldedRun.{patch-alike, whole-fanin, whole, made, ordered, whole-next}
-use Rattle.abstraction.proofs.UnrolledRun.{length-whole}
 use Rattle.compaction.specs.Compactable.{Compactable}
 use Rattle.fold.proofs.UnrollFacts.{netlist-few}
 

@@ -1,6 +1,6 @@
 -- What the analysis asks follows from questions 1 to 13, and from a work memory that is long enough and cleared.
 -- Assumes nothing.
-use Prim.Native.Nat.{ℕ, zero, _≤_}
+use Prim.Native.Nat.{ℕ, _≤_}
 use mathlib.Core.Path.{_≡_, sym, subst}
 use mathlib.Core.List.{List}
 use lib.ListN.{length, replicate}
