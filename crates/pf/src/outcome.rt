@@ -42,13 +42,13 @@ pub fn say(sentence: &[u8], numbers: [usize; 6]) {
     tell(ERRORS, sentence, numbers);
 }
 
-// A sentence.
+// A sentence with its line feed.
 pub fn fail(sentence: &[u8]) -> Outcome {
     say_text(sentence);
     Outcome::Failed
 }
 
-// A word of the call or a file's name, and what is wrong with it.
+// A word of the call or a file's name, and what is wrong with it, with the line feed.
 pub fn fail_at(word: &[u8], wrong: &[u8]) -> Outcome {
     say_text(word);
     fail(wrong)
