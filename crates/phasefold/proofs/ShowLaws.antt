@@ -11,14 +11,14 @@ use lib.Seq.{getD-take, getD-drop, ext-getD}
 use borrow.Author.Tests.{lt-ltb, le-ltb, ltb-true, eqb-true, ne-eqb}
 use Rattle.netlist.specs.Limits.{mostBlocks}
 use Rattle.netlist.specs.FileFormat.{blockAt, rowPart, blockCount}
-use Rattle.questions.specs.Questions.{Refusal, noRefusal, firstRefusal, question, namesEarlier, fileRefusal, showRefusal}
-use Rattle.questions.proofs.QuestionLaws.{list-none, list-next, number-none, list-stop, question-none}
-use Rattle.questions.proofs.AcceptedFiles.{file-right}
+use Rattle.questions.specs.Questions.{Refusal, noRefusal, firstRefusal, question, fileRefusal, showRefusal}
+use Rattle.questions.proofs.QuestionLaws.{list-yes, list-no}
+use Rattle.questions.proofs.AcceptedFiles.{ShowRight, show-accepted}
 use Rattle.accept.specs.Refusals.{numberOf, placeOf, refusalIn, acceptRefusal}
 use Rattle.accept.specs.declared.FileRefusal.{FileRefusal}
 use Rattle.accept.specs.declared.Acceptance.{Acceptance}
 use Rattle.accept.specs.declared.Acceptance.the-variants.{Accepted, Refused}
-use Rattle.accept.proofs.RefusalLaws.{number-positive, accepted-none, refused-is}
+use Rattle.accept.proofs.RefusalLaws.{number-positive, file-passes, file-stops}
 use Rattle.phasefold.specs.Outcomes.{Shown}
 use Rattle.phasefold.specs.ForeignAnswers.{ShownFlat}
 
@@ -42,42 +42,38 @@ module _ (file : List ℕ) (B : ℕ) where
   module _ (a : Acceptance) (checked : acceptRefusal a ≡ fileRefusal file) where
     asked : a ≡ Accepted → showRefusal file B ≡ firstRefusal (question 21 (ltb B (blockCount file)) ∷ [])
     unfolding showRefusal
-    asked e = list-next (fileRefusal file) (question 21 (ltb B (blockCount file)) ∷ []) (number-none (fileRefusal file) (accepted-none file a checked e))
+    asked e = file-passes file a checked (question 21 (ltb B (blockCount file)) ∷ []) e
 
     pub block-shown : (n : ℕ) → n ≡ 504 → a ≡ Accepted → B < blockCount file → Shown file B (take n (drop (512 * B + 4) file)) 0 0
     block-shown n l e h =
-        shown-by noRefusal (take n (drop (512 * B + 4) file)) (asked e ∙ rw (lt-ltb B (blockCount file) h)) (part-is file B n l (omega arith))
+        shown-by noRefusal (take n (drop (512 * B + 4) file)) (asked e ∙ list-yes 21 (ltb B (blockCount file)) [] (lt-ltb B (blockCount file) h)) (part-is file B n l (omega arith))
 
     pub block-missing : a ≡ Accepted → blockCount file ≤ B → Shown file B [] 21 0
-    block-missing e h = shown-by (record { number = 21; place = 0 }) [] (asked e ∙ rw (le-ltb B (blockCount file) h)) refl
+    block-missing e h = shown-by (record { number = 21; place = 0 }) [] (asked e ∙ list-no 20 (ltb B (blockCount file)) [] (le-ltb B (blockCount file) h)) refl
 
     pub file-refused : (r : FileRefusal) (n p : ℕ) → a ≡ Refused r → n ≡ numberOf r → p ≡ placeOf r → Shown file B [] n p
     unfolding showRefusal
     file-refused r n p e en ep =
-        let q : showRefusal file B ≡ refusalIn r =
-        list-stop (fileRefusal file) (question 21 (ltb B (blockCount file)) ∷ []) (omega (arith, number-positive r, ap (λ (x : Refusal). x .number) (refused-is file a checked r e))) ∙ sym (refused-is file a checked r e) in
+        let q : showRefusal file B ≡ refusalIn r = file-stops file a checked (question 21 (ltb B (blockCount file)) ∷ []) r e in
         rw (en, ep) (shown-by (refusalIn r) [] q (rw (ne-eqb (numberOf r) 0 (λ z. omega (arith, number-positive r, z)))))
 
 -- ---- the part by its first byte and its size
 
 module _ (file : List ℕ) (B : ℕ) (part : List ℕ) (n p : ℕ) (S : Shown file B part n p) where
-  passed-all : n ≡ 0 → (fileRefusal file .number ≡ 0) × (B < blockCount file)
-  unfolding showRefusal
-  passed-all e =
-      let asked : List Refusal = question 21 (ltb B (blockCount file)) ∷ [] in
-      let q = list-none (fileRefusal file) asked (sym (S .number-is) ∙ e) in
-      (q .0, ltb-true B (blockCount file) (question-none 20 (ltb B (blockCount file)) (list-none (question 21 (ltb B (blockCount file))) [] (q .1) .0)))
+  passed-all : n ≡ 0 → ShowRight file B
+  passed-all e = show-accepted file B (sym (S .number-is) ∙ e)
+
+  in-file : n ≡ 0 → B < blockCount file
+  in-file e = ltb-true B (blockCount file) (passed-all e .block)
 
   pub shown-few : n ≡ 0 → B < mostBlocks
-  shown-few e =
-      let q = passed-all e in
-      omega (arith, q .1, file-right namesEarlier file (q .0) .size .few-blocks)
+  shown-few e = omega (arith, in-file e, passed-all e .file-right .size .few-blocks)
 
   part-by : (b : Bool) → eqb n 0 ≡ b → part ≡ cond b (rowPart file B) []
   part-by b e = S .shown ∙ ap (λ (x : ℕ). cond (eqb x 0) (rowPart file B) []) (sym (S .number-is)) ∙ ap (λ (x : Bool). cond x (rowPart file B) []) e
 
   room : eqb n 0 ≡ true → 512 * B + 512 ≤ length file
-  room e = omega (arith, passed-all (eqb-true n 0 e) .1)
+  room e = omega (arith, in-file (eqb-true n 0 e))
 
   pub size-is : length part ≡ cond (eqb n 0) 504 0
   size-is = go (eqb n 0) refl
@@ -94,7 +90,7 @@ module _ (file : List ℕ) (B : ℕ) (part : List ℕ) (n p : ℕ) (S : Shown fi
       go false e = omega arith
 
   part-again : (o : ℕ) → o ≡ cond (eqb n 0) (512 * B + 4) 0 → take (length part) (drop o file) ≡ part
-  part-again o e = go (eqb n 0) refl (e)
+  part-again o e = go (eqb n 0) refl e
     where
       go : (b : Bool) → eqb n 0 ≡ b → o ≡ cond b (512 * B + 4) 0 → take (length part) (drop o file) ≡ part
       go true h k = rw k (part-is file B (length part) (ap length (part-by true h) ∙ part-long file B (room h)) (room h) ∙ sym (part-by true h))

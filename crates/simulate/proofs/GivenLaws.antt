@@ -1,22 +1,20 @@
 -- What Run was given, where it refuses nothing, is what its steps are given.
 -- Assumes nothing.
-use Prim.Native.Nat.{ℕ, zero, suc, _+_, _≤_}
+use Prim.Native.Nat.{ℕ, _+_, _≤_}
 use mathlib.Core.Path.{_≡_}
 use mathlib.Core.Bool.{not, true}
 use mathlib.Core.List.{List}
 use native.Mathlib.Omega.{arith}
 use native.Mathlib.Decide.{decLt}
-use lib.Dec.{leb}
 use lib.ListN.{length, replicate, List·getD-eq-default}
-use borrow.Author.Tests.{leb-true}
 use Rattle.memory.specs.Lists.{countIf}
 use Rattle.memory.specs.Fields.{byteAt}
 use Rattle.memory.proofs.TestLaws.{and-true}
-use Rattle.memory.proofs.ListLaws.{allBelow-at}
+use Rattle.memory.proofs.FieldLaws.{zeros-at}
 use Rattle.netlist.specs.Rows.{isInput, isOutput}
 use Rattle.netlist.specs.FileFormat.{netlistOf}
 use Rattle.questions.specs.Questions.{allBinary}
-use Rattle.questions.proofs.PlainWords.{valueListsRight-iff, runMemoryRight-iff}
+use Rattle.questions.proofs.PlainWords.{valueListsRight-iff, allBinary-iff, runMemoryRight-iff}
 use Rattle.questions.proofs.AcceptedFiles.{RunRight, file-checked}
 use Rattle.blockfile.proofs.ReadyLaws.{ready-right}
 use Rattle.simulate.specs.Values.{IsBinary}
@@ -25,15 +23,13 @@ use Rattle.simulate.specs.Steps.{Given}
 -- Question 19 of a list.
 pub binary-of : (vs : List ℕ) → allBinary vs ≡ true → IsBinary vs
 binary-of vs e i = elim (decLt i (length vs)) [
-  | yes l ↦ leb-true (byteAt vs i) 1 (allBelow-at (length vs) (λ j. leb (byteAt vs j) 1) e i l)
+  | yes l ↦ allBinary-iff vs .0 e i l
   | no l ↦ (let z : byteAt vs i ≡ 0 = List·getD-eq-default vs 0 {n = i} (omega arith) in omega arith)
 ]
 
 -- Cleared memory.
 pub binary-zeros : (n : ℕ) → IsBinary (replicate n 0)
-binary-zeros zero i = omega arith
-binary-zeros (suc n) zero = omega arith
-binary-zeros (suc n) (suc i) = binary-zeros n i
+binary-zeros n i = omega (arith, zeros-at n i)
 
 pub given-of : (f : List ℕ) (nodes ins T : ℕ) (choices inputs : List ℕ) (result room : ℕ) (work : List ℕ) (half : ℕ) → RunRight f T choices inputs result room → nodes ≡ countIf (λ r. not (isOutput r)) (netlistOf f) → ins ≡ countIf isInput (netlistOf f)
     → length (netlistOf f) ≤ half → half + half ≤ length work → IsBinary work → Given f (length (netlistOf f)) nodes ins T choices inputs result work half

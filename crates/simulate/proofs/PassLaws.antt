@@ -14,30 +14,22 @@ use borrow.Author.Tests.{eq-eqb}
 use Rattle.memory.specs.Lists.{countIf}
 use Rattle.memory.specs.Fields.{byteAt}
 use Rattle.memory.proofs.ListLaws.{tabulate-at}
+use Rattle.memory.proofs.FrameLaws.{kept-sets, sets-at}
 use Rattle.netlist.specs.Rows.{Row, constant, input, register, andGate, xorGate, muxGate, output, rowAt, isInput, isUnknown}
 use Rattle.netlist.specs.FileFormat.{rowOffset, netlistOf}
 use Rattle.netlist.specs.Simulation.{boolLogic, startBy, rowValue, resetValue, nextValue, valueAt, valuesUpTo, stepValues}
 use Rattle.netlist.specs.RunLayout.{placeAmong}
-use Rattle.netlist.proofs.WellFormed.{NextBelow}
+use Rattle.netlist.proofs.WellFormed.{NextBelow, next-wider}
 use Rattle.netlist.proofs.SimulationLaws.{literal-cong, row-cong, values-length}
 use Rattle.blockfile.proofs.CountLaws.{count-next, count-some-le, count-place}
 use Rattle.simulate.specs.Values.{IsBinary, bit, bitAt, bitFrom, bitByte, bitBytes, heldIn, stateFrom, stepInputs, resetChoices, valuesBefore, valuesFrom}
 use Rattle.simulate.specs.Steps.{RowReady, NetlistReady, WorkReady, TwoHalves}
 use Rattle.simulate.proofs.BitLaws.{bytes-at, bits-at, binary-set, binary-sets}
-use Rattle.simulate.proofs.WriteLaws.{write-before, write-inside, write-after, put-last, put-next}
+use Rattle.simulate.proofs.WriteLaws.{put-last, put-next}
 use Rattle.simulate.proofs.PlaceLaws.{input-place, register-place}
 use Rattle.simulate.proofs.RowValueLaws.{input-is}
 
 -- ---- what a row depends on
-
-next-more : (m k : ℕ) → m ≤ k → (r : Row) → NextBelow m r → NextBelow k r
-next-more m k h constant b = tt
-next-more m k h (input _ _) b = tt
-next-more m k h (register _ _ _) b = omega (arith, b)
-next-more m k h (andGate _ _) b = tt
-next-more m k h (xorGate _ _) b = tt
-next-more m k h (muxGate _ _ _) b = tt
-next-more m k h (output _ _ _) b = tt
 
 -- What a row takes next is read among the rows below m.
 pub next-cong : (w z : ℕ → Bool) (m : ℕ) → ((j : ℕ) → j < m → w j ≡ z j) → (r : Row) → NextBelow m r → nextValue boolLogic w r ≡ nextValue boolLogic z r
@@ -117,7 +109,7 @@ module _ (f : List ℕ) (n : ℕ) (N : NetlistReady f n) where
       input-fits o eo = omega (arith, input-next o eo, count-some-le isInput constant (netlistOf f) (i + 1) .1)
 
   pub next-below : (o m i : ℕ) → o + n ≤ m → i < n → NextBelow (m - o) (rowAt (netlistOf f) i)
-  next-below o m i fits h = next-more (length (netlistOf f)) (m - o) (omega (arith, N .ready .count)) (rowAt (netlistOf f) i) (N .checked .nexts i (in-rows i h))
+  next-below o m i fits h = next-wider (length (netlistOf f)) (m - o) (omega (arith, N .ready .count)) (rowAt (netlistOf f) i) (N .checked .nexts i (in-rows i h))
 
   -- Memory v at the step's start.
   module _ (inputs : List ℕ) (base current previous : ℕ) (initial : Bool) (v : List ℕ) where
@@ -145,8 +137,8 @@ module _ (f : List ℕ) (n : ℕ) (N : NetlistReady f n) where
         previous-is j l =
             ap bit (ap (λ (l : List ℕ). byteAt l (previous + j)) ew
             ∙ ⊎-elim
-            (λ (a : current + n ≤ previous). write-after v (bitBytes (values i)) current fits (previous + j) (omega (arith, written)))
-            (λ (a : previous + n ≤ current). write-before v (bitBytes (values i)) current fits (previous + j) (omega arith))
+            (λ (a : current + n ≤ previous). kept-sets current (current + length (bitBytes (values i))) (bitBytes (values i)) v current (omega arith) (omega arith) .after (previous + j) (omega (arith, written)))
+            (λ (a : previous + n ≤ current). kept-sets current (current + length (bitBytes (values i))) (bitBytes (values i)) v current (omega arith) (omega arith) .before (previous + j) (omega arith))
             (H .apart))
 
         held-is : heldIn w previous initial i (rowAt (netlistOf f) i) ≡ valueAt boolLogic (stateFrom (netlistOf f) v previous initial) i
@@ -159,7 +151,7 @@ module _ (f : List ℕ) (n : ℕ) (N : NetlistReady f n) where
             held-cong false = next-cong (bitFrom w previous) (bitFrom v previous) (length (netlistOf f)) (λ j l. previous-is j (omega (arith, N .ready .count))) (rowAt (netlistOf f) i) (N .checked .nexts i (in-rows i h))
 
         value-is : (j : ℕ) → j < i → bitFrom w current j ≡ valueAt boolLogic (values i) j
-        value-is j l = ap bit (ap (λ (l : List ℕ). byteAt l (current + j)) ew ∙ write-inside v (bitBytes (values i)) current fits j (omega (arith, written))) ∙ bits-at (values i) j
+        value-is j l = ap bit (ap (λ (l : List ℕ). byteAt l (current + j)) ew ∙ sets-at (bitBytes (values i)) v current j (omega (arith, written)) fits) ∙ bits-at (values i) j
 
         input-is-at : (k : ℕ) → k ≡ placeAmong isInput (netlistOf f) i → (l p : ℕ) → rowAt (netlistOf f) i ≡ input l p → bitAt inputs (base + k) ≡ stepInputs (netlistOf f) inputs base l p
         input-is-at k ek l p e = ap (bitFrom inputs base) (ek ∙ ap (placeAmong isInput (netlistOf f)) (sym (input-place (netlistOf f) (N .checked .unique) i (in-rows i h) l p e)))

@@ -8,25 +8,15 @@ use native.Mathlib.Omega.{arith}
 use lib.Dec.{eqb}
 use lib.ListN.{length}
 use Rattle.memory.specs.Fields.{byteAt, u16At}
-use Rattle.netlist.specs.Rows.{Row, constant, rowFromFields, rowAt, isInput, isUnknown}
+use Rattle.netlist.specs.Rows.{Row, rowFromFields, rowAt, isInput, isUnknown}
 use Rattle.netlist.specs.FileFormat.{rowOffset, netlistOf}
 use Rattle.netlist.specs.Simulation.{boolLogic, boolXor, literalValue, rowValue, resetValue}
+use Rattle.netlist.proofs.RowLaws.{other-kind}
 use Rattle.netlist.proofs.WellFormed.{OperandsBelow, NextBelow}
 use Rattle.blockfile.proofs.CountLaws.{SortsBy, sorts-by}
 use Rattle.simulate.specs.Values.{IsBinary, bit, bitAt, bitFrom, bitByte, heldIn}
 use Rattle.simulate.specs.Steps.{RowReady}
 use Rattle.simulate.proofs.BitLaws.{byte-bit, bit-byte}
-
--- A kind that is none of 0 to 6 is read as a constant.
-other-kind : (k r a b c : ℕ) → (k ≡ 0 → ⊥) → (k ≡ 1 → ⊥) → (k ≡ 2 → ⊥) → (k ≡ 3 → ⊥) → (k ≡ 4 → ⊥) → (k ≡ 5 → ⊥) → (k ≡ 6 → ⊥) → rowFromFields k r a b c ≡ constant
-other-kind zero r a b c n0 n1 n2 n3 n4 n5 n6 = refl
-other-kind (suc zero) r a b c n0 n1 n2 n3 n4 n5 n6 = absurd (n1 refl)
-other-kind (suc (suc zero)) r a b c n0 n1 n2 n3 n4 n5 n6 = absurd (n2 refl)
-other-kind (suc (suc (suc zero))) r a b c n0 n1 n2 n3 n4 n5 n6 = absurd (n3 refl)
-other-kind (suc (suc (suc (suc zero)))) r a b c n0 n1 n2 n3 n4 n5 n6 = absurd (n4 refl)
-other-kind (suc (suc (suc (suc (suc zero))))) r a b c n0 n1 n2 n3 n4 n5 n6 = absurd (n5 refl)
-other-kind (suc (suc (suc (suc (suc (suc zero)))))) r a b c n0 n1 n2 n3 n4 n5 n6 = absurd (n6 refl)
-other-kind (suc (suc (suc (suc (suc (suc (suc k))))))) r a b c n0 n1 n2 n3 n4 n5 n6 = refl
 
 -- A row of another kind than 2 starts as 0.
 no-register : (k r a b c : ℕ) (u : ℕ → Bool) → (k ≡ 2 → ⊥) → resetValue boolLogic u (rowFromFields k r a b c) ≡ false

@@ -16,6 +16,7 @@ use Rattle.memory.specs.Lists.{countIf, joinBelow, tabulate}
 use Rattle.memory.specs.Fields.{byteAt}
 use Rattle.memory.proofs.ListLaws.{join-length, tabulate-length, tabulate-at}
 use Rattle.memory.proofs.BufferLaws.{sets-join}
+use Rattle.memory.proofs.FrameLaws.{sets-at}
 use Rattle.netlist.specs.Rows.{Row, constant, input, register, andGate, xorGate, muxGate, output, rowAt, isInput, isOutput, onOutput}
 use Rattle.netlist.specs.FileFormat.{netlistOf}
 use Rattle.netlist.specs.Simulation.{boolLogic, resetValue, nextValue, valueAt, stepValues, runState, runValue}
@@ -26,7 +27,7 @@ use Rattle.blockfile.proofs.CountLaws.{count-next}
 use Rattle.simulate.specs.Values.{bit, bitFrom, bitByte, bitBytes, heldIn, stateFrom, stepInputs, resetChoices, valuesFrom, shownBytes}
 use Rattle.simulate.specs.Steps.{NetlistReady, WorkReady, TwoHalves, Given, Stepped}
 use Rattle.simulate.proofs.BitLaws.{bit-byte, bytes-at, bits-at, binary-bytes}
-use Rattle.simulate.proofs.WriteLaws.{write-inside, write-front}
+use Rattle.simulate.proofs.WriteLaws.{write-front}
 use Rattle.simulate.proofs.PlaceLaws.{node-before, output-from, count-parts}
 use Rattle.simulate.proofs.PassLaws.{next-cong, work-written, halves-written, halves-turned}
 
@@ -125,7 +126,7 @@ module _ (f : List ℕ) (n : ℕ) (N : NetlistReady f n) where
         ext-getD false (tabulate m (bitFrom w half)) ss (tabulate-length m (bitFrom w half) ∙ sym e) (λ j l.
         let b : j < m = omega (arith, l, tabulate-length m (bitFrom w half)) in
         tabulate-at m (bitFrom w half) j false b
-        ∙ ap bit (ap (λ (l : List ℕ). byteAt l (half + j)) ew ∙ write-inside v (bitBytes ss) half fits j (omega arith))
+        ∙ ap bit (ap (λ (l : List ℕ). byteAt l (half + j)) ew ∙ sets-at (bitBytes ss) v half j (omega arith) fits)
         ∙ bits-at ss j)
 
   -- Values vs that were written from o on.
@@ -133,7 +134,7 @@ module _ (f : List ℕ) (n : ℕ) (N : NetlistReady f n) where
     values-written : (j : ℕ) → j < n → byteAt w (o + j) ≡ bitByte (valueAt boolLogic vs j)
     values-written j l =
         let k = length-map vs bitByte in
-        ap (λ (l : List ℕ). byteAt l (o + j)) ew ∙ write-inside v (bitBytes vs) o (omega arith) j (omega arith) ∙ bytes-at vs j
+        ap (λ (l : List ℕ). byteAt l (o + j)) ew ∙ sets-at (bitBytes vs) v o j (omega arith) (omega arith) ∙ bytes-at vs j
 
     -- The state that the next step begins with.
     state-next : stateFrom (netlistOf f) w o false ≡ map (nextValue boolLogic (valueAt boolLogic vs)) (netlistOf f)
