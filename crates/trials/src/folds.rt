@@ -11,6 +11,7 @@ use reference::asking::Verdict;
 use text::both;
 use text::bytes::get;
 use text::bytes::same;
+use text::numbers::number_at;
 
 // Where the product packs its clock entries.
 const ENTRIES: usize = 16384;
@@ -82,10 +83,6 @@ fn same_answer(x: Folded, y: Folded) -> bool {
 
 // ---- clock entries
 
-fn long(list: &[u32], at: usize) -> u32 {
-    if at < list.len() { list[at] } else { 0 }
-}
-
 fn wide(work: &[u8], at: usize) -> u32 {
     let byte = get(work, at);
     byte as u32
@@ -102,10 +99,10 @@ fn same_entry(work: &[u8], list: &[u32], entry: usize) -> bool {
     let index = entry % 256;
     let at = ENTRIES + 8 * index;
     let from = 4 * index;
-    let label = pair(work, at) == long(list, from);
-    let period = wide(work, at + 2) == long(list, from + 1);
-    let bits = wide(work, at + 3) == long(list, from + 2);
-    let ones = pair(work, at + 4) == long(list, from + 3);
+    let label = pair(work, at) == number_at(list, from);
+    let period = wide(work, at + 2) == number_at(list, from + 1);
+    let bits = wide(work, at + 3) == number_at(list, from + 2);
+    let ones = pair(work, at + 4) == number_at(list, from + 3);
     let rest = pair(work, at + 6) == 0;
     let named = both(label, period);
     let told = both(bits, ones);
