@@ -13,7 +13,7 @@ use Rattle.ternary.specs.Ternary.{Ternary, lo, hi, X}
 use Rattle.netlist.specs.Rows.{Row, constant, input, register, andGate, xorGate, muxGate, output, rowAt, kindOf, labelOf, phaseOf, hasName, isRegister, isOutput}
 use Rattle.netlist.specs.Simulation.{boolLogic, complementIf, literalValue, rowValue}
 use Rattle.netlist.proofs.RowLaws.{unnamed}
-use Rattle.netlist.proofs.WellFormed.{OperandsBelow, Ordered}
+use Rattle.netlist.specs.WellFormed.{OperandsBelow, Ordered}
 use Rattle.abstraction.specs.GateMaking.{Image, existing, newRow, Unrolling, addImage}
 use Rattle.abstraction.specs.Unrolling.{complementBy, imageLiteral, registerImage, rowImage}
 use Rattle.abstraction.proofs.GateLaws.{Makes, GateOver, and-over, xor-over, mux-over}

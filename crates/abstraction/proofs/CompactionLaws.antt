@@ -12,7 +12,7 @@ use Rattle.memory.proofs.TestLaws.{cond-case, last-or}
 use Rattle.netlist.specs.Rows.{Row, constant, input, register, andGate, xorGate, muxGate, output, rowAt, mapLiterals}
 use Rattle.netlist.specs.Simulation.{boolLogic, literalValue, rowValue, resetValue, nextValue, runValue}
 use Rattle.netlist.proofs.RowLaws.{RowIn}
-use Rattle.netlist.proofs.WellFormed.{OperandsBelow, Ordered}
+use Rattle.netlist.specs.WellFormed.{OperandsBelow, Ordered}
 use Rattle.netlist.proofs.SimulationLaws.{held, value-at}
 use Rattle.abstraction.specs.Compaction.{faninNodes, isMarked, newIndex, renumberLiteral, compactUpTo}
 

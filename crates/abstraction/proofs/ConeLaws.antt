@@ -15,16 +15,13 @@ use Rattle.memory.proofs.TestLaws.{cond-case, or-case, last-or}
 use Rattle.memory.specs.Lists.{countIf}
 use Rattle.memory.proofs.ListLaws.{count-le}
 use Rattle.netlist.specs.Rows.{Row, rowAt, kindOf, isOutput}
+use Rattle.netlist.specs.WellFormed.{EachBelow}
 use Rattle.abstraction.specs.Compaction.{faninNodes, isConeRoot, isMarked, markAll, equalMarks, markSweep, markFixpoint, coneOfInfluence, Among, here, there, Reached, row-zero, shown, named}
 use Rattle.abstraction.proofs.CompactionLaws.{AllMarked, ClosedUnderFanin, marked-lt}
 
 -- Every mark of m is one of m′.
 abbrev pub MarksOf : List Bool → List Bool → Type 0
 MarksOf m m′ = (j : ℕ) → isMarked m j ≡ true → isMarked m′ j ≡ true
-
-abbrev pub EachBelow : ℕ → List ℕ → Type 0
-EachBelow n [] = Unit {0}
-EachBelow n (j ∷ js) = (j < n) × EachBelow n js
 
 set-keeps : (m : List Bool) (j : ℕ) → MarksOf m (set m j true)
 set-keeps m j x h = elim (ℕ-discrete x j) [

@@ -18,7 +18,7 @@ use Rattle.ternary.proofs.RuleLaws.{Covers}
 use Rattle.netlist.specs.Rows.{Row, constant, input, register, andGate, xorGate, muxGate, output, encodeRow, rowAt, kindOf, labelOf, phaseOf, hasName, isUnknown, isNamed, rowNamed, firstRow, HasRow, HasRegister, HasUnknown, HasOutput}
 use Rattle.netlist.specs.Simulation.{boolLogic, valueAt, runState, runValue, RunValues, outputShows, registerHolds}
 use Rattle.netlist.proofs.RowLaws.{RowIn, named-is, named-of, named-input, named-register, named-output, unknown-is, unknown-of, has-at, has-of}
-use Rattle.netlist.proofs.WellFormed.{ResetIn, AcceptedRows}
+use Rattle.netlist.specs.WellFormed.{ResetIn, AcceptedRows}
 use Rattle.netlist.proofs.SimulationLaws.{state-prefix, value-prefix}
 use Rattle.lasso.specs.LassoSearch.{Lasso, findLasso}
 use Rattle.lasso.specs.Generators.{periodsOf, clockValue}

@@ -11,7 +11,7 @@ use Rattle.memory.specs.Lists.{countIf}
 use Rattle.ternary.specs.Ternary.{Ternary}
 use Rattle.netlist.specs.Limits.{mostPhases, mostFoldedRows}
 use Rattle.netlist.specs.Rows.{Row, rowAt, labelOf, hasName, isRegister}
-use Rattle.netlist.proofs.WellFormed.{AcceptedRows}
+use Rattle.netlist.specs.WellFormed.{AcceptedRows}
 use Rattle.lasso.specs.LassoSearch.{Lasso, findLasso}
 use Rattle.lasso.specs.Generators.{periodsOf, phaseCount, clockValue}
 use Rattle.lasso.proofs.LassoLaws.{lasso-is}

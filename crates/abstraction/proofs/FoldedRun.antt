@@ -12,8 +12,8 @@ use Rattle.ternary.specs.Ternary.{Ternary}
 use Rattle.ternary.proofs.RuleLaws.{Covers}
 use Rattle.netlist.specs.Rows.{Row, constant, input, register, andGate, xorGate, muxGate, output, encodeRow, rowAt, kindOf, nameOf, labelOf, phaseOf, hasName, isRegister, isOutput, onRegister, onOutput, mapLiterals}
 use Rattle.netlist.specs.Simulation.{boolLogic, valueAt, runState, runValue}
-use Rattle.netlist.proofs.RowLaws.{SameName, named-alike, RowIn}
-use Rattle.netlist.proofs.WellFormed.{OperandsBelow, Ordered, NextBelow, WellFormed, next-wider}
+use Rattle.netlist.proofs.RowLaws.{named-alike, RowIn, next-wider}
+use Rattle.netlist.specs.WellFormed.{SameName, OperandsBelow, Ordered, NextBelow, WellFormed, EachBelow}
 use Rattle.netlist.proofs.SimulationLaws.{held, state-at}
 use Rattle.abstraction.specs.Unrolling.{imageLiteral, patchNext, unrollPhases, unrolledNetlist}
 use Rattle.abstraction.specs.Compaction.{faninNodes, isConeRoot, isMarked, coneOfInfluence, newIndex, renumberLiteral}
@@ -22,7 +22,7 @@ use Rattle.abstraction.proofs.UnrollLaws.{unroll-formed}
 use Rattle.abstraction.proofs.UnrolledRun.{whole-front, whole-back, whole-has, ordered-whole, length-whole, held-at, output-value}
 use Rattle.abstraction.proofs.Provenance.{Source, phase-before, unroll-named, unroll-nodes}
 use Rattle.abstraction.proofs.CompactionLaws.{renumbered, ClosedUnderFanin, KeptRow, kept, kept-at, kept-lt, kept-from, register-same, value-same}
-use Rattle.abstraction.proofs.ConeLaws.{EachBelow, cone-length, cone-closed, cone-root}
+use Rattle.abstraction.proofs.ConeLaws.{cone-length, cone-closed, cone-root}
 
 -- Rows that differ in their literals alone.
 pub record Alike (r s : Row) : Type 0 where

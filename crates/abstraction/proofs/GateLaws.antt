@@ -10,7 +10,7 @@ use lib.Dec.{eqb}
 use Rattle.memory.proofs.TestLaws.{cond-case, or-case}
 use Rattle.netlist.specs.Rows.{Row, kindOf}
 use Rattle.netlist.specs.Simulation.{boolLogic, boolXor, complementIf, literalValue, rowValue}
-use Rattle.netlist.proofs.WellFormed.{OperandsBelow}
+use Rattle.netlist.specs.WellFormed.{OperandsBelow}
 use Rattle.abstraction.specs.GateMaking.{complement, positive, Image, existing, newRow, makeAnd, makeXor, makeMux}
 use Rattle.abstraction.specs.Unrolling.{complementBy}
 

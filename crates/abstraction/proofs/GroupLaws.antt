@@ -10,7 +10,7 @@ use Rattle.ternary.specs.Ternary.{Ternary}
 use Rattle.ternary.proofs.RuleLaws.{Covers, is-lo, is-hi, any}
 use Rattle.netlist.specs.Rows.{Row, constant, input, register, andGate, xorGate, muxGate, output, rowAt, phaseOf}
 use Rattle.netlist.specs.Simulation.{boolLogic, complementIf, literalValue, rowValue, nextValue}
-use Rattle.netlist.proofs.WellFormed.{OperandsBelow, NextBelow, WellFormed}
+use Rattle.netlist.specs.WellFormed.{OperandsBelow, NextBelow, WellFormed}
 use Rattle.abstraction.specs.Unrolling.{imageLiteral, registerImage, rowImage, imageAt, unrollPhase, unrollPhases}
 use Rattle.abstraction.proofs.GateLaws.{literal-one, literal-by, Makes, and-makes, xor-makes, mux-makes}
 use Rattle.abstraction.proofs.BuilderLaws.{Satisfies, add-rows, added-satisfies, add-literal, add-each}

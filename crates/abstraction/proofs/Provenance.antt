@@ -12,8 +12,8 @@ use Rattle.memory.specs.Lists.{joinBelow}
 use Rattle.memory.proofs.TestLaws.{last-or}
 use Rattle.ternary.specs.Ternary.{Ternary}
 use Rattle.netlist.specs.Rows.{Row, constant, input, register, andGate, xorGate, muxGate, output, rowAt, kindOf, labelOf, phaseOf, hasName, isRegister, isOutput}
-use Rattle.netlist.proofs.RowLaws.{SameName, named-alike, EachRow, each-append, each-one}
-use Rattle.netlist.proofs.WellFormed.{AcceptedRows}
+use Rattle.netlist.proofs.RowLaws.{named-alike, each-append, each-one}
+use Rattle.netlist.specs.WellFormed.{SameName, EachRow, AcceptedRows}
 use Rattle.abstraction.specs.GateMaking.{Image}
 use Rattle.abstraction.specs.Unrolling.{phaseOutput, unrollPhases, phaseOutputs}
 use Rattle.abstraction.proofs.BuilderLaws.{ImageOver, Added, none, one}

@@ -12,8 +12,8 @@ use lib.ListN.{length, length-map, List·getD-map}
 use Rattle.memory.specs.Lists.{joinBelow}
 use Rattle.ternary.specs.Ternary.{Ternary}
 use Rattle.netlist.specs.Rows.{Row, constant, input, register, andGate, xorGate, muxGate, output, encodeRow, rowAt, kindOf, phaseOf, hasName, isOutput, onRegister, onOutput}
-use Rattle.netlist.proofs.RowLaws.{SameName, named-alike, unnamed}
-use Rattle.netlist.proofs.WellFormed.{OperandsBelow, NextBelow, ResetIn, NamesNode, OnLiterals, AcceptedRows}
+use Rattle.netlist.proofs.RowLaws.{named-alike, unnamed}
+use Rattle.netlist.specs.WellFormed.{SameName, OperandsBelow, NextBelow, ResetIn, NamesNode, OnLiterals, AcceptedRows}
 use Rattle.abstraction.specs.Unrolling.{patchNext, phaseOutputs, unrolledNetlist}
 use Rattle.abstraction.specs.Compaction.{faninNodes, isConeRoot, isMarked, newIndex, renumberLiteral, Reached}
 use Rattle.abstraction.proofs.UnrollLaws.{unroll-formed, unroll-grows}

@@ -10,7 +10,7 @@ use lib.ListN.{length, getD, List·getD-eq-default}
 use Rattle.memory.proofs.TestLaws.{last-or}
 use Rattle.ternary.specs.Ternary.{Ternary}
 use Rattle.netlist.specs.Rows.{Row, constant, rowAt}
-use Rattle.netlist.proofs.WellFormed.{OperandsBelow, Ordered}
+use Rattle.netlist.specs.WellFormed.{OperandsBelow, Ordered}
 use Rattle.abstraction.specs.GateMaking.{Image, Unrolling, addImage}
 use Rattle.abstraction.specs.Unrolling.{imageAt, unrollPhase, unrollPhases}
 use Rattle.abstraction.proofs.BuilderLaws.{ImageOver, LiteralsBelow, image-over, Added, add-rows, added-length, added-ordered, Satisfies, added-satisfies, add-literal, add-images, add-each}

@@ -15,8 +15,8 @@ use Rattle.ternary.specs.Ternary.{Ternary}
 use Rattle.ternary.proofs.RuleLaws.{Covers}
 use Rattle.netlist.specs.Rows.{Row, constant, input, register, andGate, xorGate, muxGate, output, rowAt}
 use Rattle.netlist.specs.Simulation.{boolLogic, literalValue, rowValue, valueAt, resetValue, runState, runValue}
-use Rattle.netlist.proofs.RowLaws.{EachRow, each-one, each-join, RowIn, in-right, in-join}
-use Rattle.netlist.proofs.WellFormed.{OperandsBelow, Ordered, WellFormed}
+use Rattle.netlist.proofs.RowLaws.{each-one, each-join, RowIn, in-right, in-join}
+use Rattle.netlist.specs.WellFormed.{EachRow, OperandsBelow, Ordered, WellFormed}
 use Rattle.netlist.proofs.SimulationLaws.{held, state-at, value-at}
 use Rattle.abstraction.specs.Unrolling.{imageLiteral, patchNext, phaseOutput, unrollPhases, phaseOutputs, unrolledNetlist}
 use Rattle.abstraction.proofs.BuilderLaws.{Satisfies}

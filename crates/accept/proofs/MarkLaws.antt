@@ -17,7 +17,8 @@ use Rattle.memory.specs.Fields.{byteAt}
 use Rattle.memory.proofs.TestLaws.{last-or}
 use Rattle.netlist.specs.Limits.{mostPhases}
 use Rattle.netlist.specs.Rows.{Row, constant, input, register, andGate, xorGate, muxGate, output, rowAt, labelOf, phaseOf, hasName}
-use Rattle.netlist.proofs.RowLaws.{SameName, named-alike}
+use Rattle.netlist.proofs.RowLaws.{named-alike}
+use Rattle.netlist.specs.WellFormed.{SameName}
 use Rattle.questions.specs.Questions.{labelIsNew}
 use Rattle.questions.proofs.PlainWords.{labelIsNew-iff}
 use Rattle.accept.specs.Marks.{labels, allSlots, slotOf, markBytes, bitOf, bitAt, Marked, MarksOf}

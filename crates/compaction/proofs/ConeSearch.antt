@@ -12,7 +12,8 @@ use Rattle.memory.proofs.ListLaws.{tabulate-length, tabulate-at}
 use Rattle.netlist.specs.Rows.{Row, constant, rowAt}
 use Rattle.abstraction.specs.Compaction.{faninNodes, isConeRoot, isMarked, markAll, coneOfInfluence}
 use Rattle.abstraction.proofs.CompactionLaws.{AllMarked, ClosedUnderFanin, marked-lt}
-use Rattle.abstraction.proofs.ConeLaws.{MarksOf, EachBelow, markAll-keeps, markAll-marks, all-keep, markAll-within, cone-length, cone-closed, cone-root, cone-least}
+use Rattle.abstraction.proofs.ConeLaws.{MarksOf, markAll-keeps, markAll-marks, all-keep, markAll-within, cone-length, cone-closed, cone-root, cone-least}
+use Rattle.netlist.specs.WellFormed.{EachBelow}
 use Rattle.compaction.specs.Compactable.{heldRow, heldRows, HeldInside}
 use Rattle.compaction.specs.Slots.{markAt, marksIn, foundAt, Found, Pushed, RootsMarked}
 use Rattle.compaction.proofs.SlotLaws.{marked-in}

@@ -14,7 +14,7 @@ use Rattle.netlist.specs.FileFormat.{rowOffset}
 use Rattle.netlist.specs.Rows.{Row, constant, input, register, andGate, xorGate, muxGate, output, encodeRow, rowFromFields, mapLiterals}
 use Rattle.netlist.proofs.RowLaws.{other-kind}
 use Rattle.abstraction.specs.Compaction.{faninNodes, isConeRoot}
-use Rattle.abstraction.proofs.ConeLaws.{EachBelow}
+use Rattle.netlist.specs.WellFormed.{EachBelow}
 use Rattle.compaction.specs.Compactable.{heldRow}
 use Rattle.compaction.specs.Slots.{Found, Pushed}
 use Rattle.compaction.specs.Moves.{literalCount, renumberFields}

@@ -6,10 +6,8 @@ use lib.ListN.{length}
 use Rattle.memory.specs.Lists.{tabulate}
 use Rattle.netlist.specs.Rows.{Row, encodeRow, decodeRow, rowAt}
 use Rattle.netlist.specs.FileFormat.{readFields}
-use Rattle.netlist.proofs.FileLaws.{FieldsFit}
-use Rattle.netlist.proofs.RowLaws.{EachRow}
+use Rattle.netlist.specs.WellFormed.{FieldsFit, EachRow, EachBelow}
 use Rattle.abstraction.specs.Compaction.{faninNodes}
-use Rattle.abstraction.proofs.ConeLaws.{EachBelow}
 
 -- Each field has 16 bits, and each row names rows of the netlist.
 pub record Compactable (rs : List Row) : Type 0 where

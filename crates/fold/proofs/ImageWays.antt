@@ -13,7 +13,7 @@ use Rattle.ternary.specs.Ternary.{lo, hi, X}
 use Rattle.netlist.specs.Limits.{mostOriginalRows}
 use Rattle.netlist.specs.Rows.{input, register, RowFields, rowFromFields, decodeRow, rowAt}
 use Rattle.netlist.specs.FileFormat.{readFields, netlistOf}
-use Rattle.netlist.proofs.WellFormed.{OperandsBelow, NextBelow}
+use Rattle.netlist.specs.WellFormed.{OperandsBelow, NextBelow}
 use Rattle.netlist.proofs.RowLaws.{other-kind}
 use Rattle.abstraction.specs.GateMaking.{complement, newRow, makeAnd, makeXor, makeMux}
 use Rattle.abstraction.specs.Unrolling.{complementBy, imageLiteral, registerImage, rowImage}

@@ -15,7 +15,7 @@ use Rattle.memory.proofs.FrameLaws.{kept-none, kept-join, kept-sets, sets-at}
 use Rattle.netlist.specs.Limits.{mostRows, mostOriginalRows, foldResultBytes}
 use Rattle.netlist.specs.Rows.{Row, constant, input, register, andGate, xorGate, muxGate, output, kindOf}
 use Rattle.netlist.specs.FileFormat.{rowOffset}
-use Rattle.netlist.proofs.WellFormed.{NextBelow}
+use Rattle.netlist.specs.WellFormed.{NextBelow}
 use Rattle.abstraction.specs.Unrolling.{imageLiteral, patchNext}
 use Rattle.blockfile.proofs.StandLaws.{row-room, row-next}
 use Rattle.fold.specs.UnrollMap.{imagesIn, RowStands, NextFits, NextsPatched}

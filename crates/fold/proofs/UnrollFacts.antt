@@ -14,8 +14,8 @@ use Rattle.memory.proofs.ListLaws.{join-cong}
 use Rattle.ternary.specs.Ternary.{Ternary, lo, hi, X}
 use Rattle.netlist.specs.Limits.{mostRows, mostPhases, mostOriginalRows}
 use Rattle.netlist.specs.Rows.{Row, constant, input, register, andGate, xorGate, muxGate, output, rowAt, kindOf, phaseOf, hasName, isRegister}
-use Rattle.netlist.proofs.RowLaws.{EachRow, each-append, each-one}
-use Rattle.netlist.proofs.WellFormed.{NextBelow, AcceptedRows}
+use Rattle.netlist.proofs.RowLaws.{each-append, each-one}
+use Rattle.netlist.specs.WellFormed.{EachRow, NextBelow, AcceptedRows}
 use Rattle.abstraction.specs.GateMaking.{Image, Unrolling}
 use Rattle.abstraction.specs.Unrolling.{registerImage, rowImage, imageAt, patchNext, phaseOutput, unrollPhase, unrollPhases, phaseOutputs, unrolledNetlist}
 use Rattle.abstraction.proofs.BuilderLaws.{ImageOver, Added, none, one, add-rows, added-length}

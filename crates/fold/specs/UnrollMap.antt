@@ -13,7 +13,7 @@ use Rattle.ternary.specs.Ternary.{Ternary}
 use Rattle.netlist.specs.Limits.{mostPhases, mostOriginalRows, foldResultBytes, foldWorkBytes}
 use Rattle.netlist.specs.Rows.{Row, RowFields, rowAt}
 use Rattle.netlist.specs.FileFormat.{rowOffset, netlistOf, fieldBytes, rowBytes}
-use Rattle.netlist.proofs.WellFormed.{NextBelow, AcceptedRows}
+use Rattle.netlist.specs.WellFormed.{NextBelow, AcceptedRows}
 use Rattle.abstraction.specs.GateMaking.{Unrolling}
 use Rattle.abstraction.specs.Unrolling.{patchNext, phaseOutput, unrollPhase, unrollPhases}
 use Rattle.blockfile.specs.RowsStand.{RowsStand}

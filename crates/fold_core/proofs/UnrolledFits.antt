@@ -10,8 +10,8 @@ use Rattle.memory.specs.Lists.{joinBelow}
 use Rattle.ternary.specs.Ternary.{Ternary}
 use Rattle.netlist.specs.Limits.{mostRows, mostPhases}
 use Rattle.netlist.specs.Rows.{Row, constant, rowAt, labelOf, phaseOf, hasName}
-use Rattle.netlist.proofs.RowLaws.{EachRow, each-append, unnamed}
-use Rattle.netlist.proofs.WellFormed.{AcceptedRows}
+use Rattle.netlist.proofs.RowLaws.{each-append, unnamed}
+use Rattle.netlist.specs.WellFormed.{EachRow, AcceptedRows}
 use Rattle.netlist.proofs.FileLaws.{row-fits}
 use Rattle.abstraction.specs.Unrolling.{patchNext, unrollPhases, phaseOutputs, unrolledNetlist}
 use Rattle.abstraction.proofs.UnrolledRun.{length-whole}

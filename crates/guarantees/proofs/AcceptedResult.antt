@@ -11,7 +11,7 @@ use Rattle.netlist.specs.Limits.{mostPhases}
 use Rattle.netlist.specs.Rows.{Row, RowFields, constant, encodeRow, rowAt, kindOf, phaseOf, isOutput}
 use Rattle.netlist.specs.FileFormat.{fieldsAt}
 use Rattle.netlist.proofs.RowLaws.{decode-row, decode-rows, kind-le, named-alike}
-use Rattle.netlist.proofs.WellFormed.{ResetIn}
+use Rattle.netlist.specs.WellFormed.{ResetIn}
 use Rattle.questions.specs.Questions.{noRefusal, kindRight, fieldsRight, labelIsNew, namesEarlier, literalsRight, rowsRefusal}
 use Rattle.questions.proofs.PlainWords.{kindRight-iff, fieldsRight-iff, labelIsNew-iff, literalsRight-iff, namesEarlier-iff}
 use Rattle.questions.proofs.AcceptedFiles.{RowsRight, rows-yes}

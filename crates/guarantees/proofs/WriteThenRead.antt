@@ -10,12 +10,12 @@ use Rattle.memory.specs.Fields.{IsBytes, byteAt}
 use Rattle.netlist.specs.Limits.{mostRows}
 use Rattle.netlist.specs.Rows.{Row, constant, input, register, andGate, xorGate, muxGate, output, encodeRow, rowAt}
 use Rattle.netlist.specs.FileFormat.{blockCount, blockAt, blockRows, blocksFor, fieldsOf, netlistOf, fileOf}
-use Rattle.netlist.proofs.RowLaws.{decode-rows, EachRow}
-use Rattle.netlist.proofs.WellFormed.{ResetIn}
-use Rattle.netlist.proofs.FileLaws.{FieldsFit, writtenBlock, block-head, block-unused, block-sum, part-small, part-length, file-length, file-blocks, block-back, fields-back, read-back, file-is-bytes, row-fits}
+use Rattle.netlist.proofs.RowLaws.{decode-rows}
+use Rattle.netlist.specs.WellFormed.{EachRow, ResetIn, FieldsFit, CheckedRows}
+use Rattle.netlist.proofs.FileLaws.{writtenBlock, block-head, block-unused, block-sum, part-small, part-length, file-length, file-blocks, block-back, fields-back, read-back, file-is-bytes, row-fits}
 use Rattle.questions.specs.Questions.{noRefusal, namesEarlier, fileRefusal}
 use Rattle.questions.proofs.PlainWords.{LengthWords, BlockWords}
-use Rattle.questions.proofs.AcceptedFiles.{RowsRight, rows-right, file-yes, CheckedRows, rows-checked}
+use Rattle.questions.proofs.AcceptedFiles.{RowsRight, rows-right, file-yes, rows-checked}
 use Rattle.guarantees.specs.RoundTrips.{Writable}
 
 -- ---- questions 1 to 5

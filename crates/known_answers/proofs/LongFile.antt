@@ -12,7 +12,7 @@ use Rattle.netlist.specs.Limits.{mostRows, mostFileBytes}
 use Rattle.netlist.specs.Rows.{Row, constant, andGate, output, rowAt, kindOf, labelOf, phaseOf, hasName, isOutput}
 use Rattle.netlist.specs.FileFormat.{fileOf}
 use Rattle.netlist.proofs.FileLaws.{file-length}
-use Rattle.netlist.proofs.WellFormed.{ResetIn, NamesNode, OnLiterals}
+use Rattle.netlist.specs.WellFormed.{ResetIn, NamesNode, OnLiterals}
 use Rattle.questions.specs.Questions.{noRefusal, fileRefusal}
 use Rattle.abstraction.proofs.ResultShape.{ResultShape}
 use Rattle.guarantees.specs.RoundTrips.{Writable}

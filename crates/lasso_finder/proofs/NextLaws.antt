@@ -18,7 +18,7 @@ use Rattle.ternary.proofs.RuleLaws.{value-of-code}
 use Rattle.netlist.specs.Limits.{mostOriginalRows, mostOriginalRegisters, foldWorkBytes, lastState}
 use Rattle.netlist.specs.Rows.{Row, rowAt, isRegister}
 use Rattle.netlist.specs.Simulation.{ternaryLogic, literalValue}
-use Rattle.netlist.proofs.WellFormed.{AcceptedRows}
+use Rattle.netlist.specs.WellFormed.{AcceptedRows}
 use Rattle.netlist.proofs.SimulationLaws.{literal-cong}
 use Rattle.lasso.specs.Generators.{stateValue}
 use Rattle.lasso_finder.specs.WorkMap.{knownPlace}

@@ -14,7 +14,7 @@ use Rattle.memory.proofs.TestLaws.{last-or}
 use Rattle.ternary.specs.Ternary.{Ternary, lo, X, not3, codeOf}
 use Rattle.netlist.specs.Rows.{Row, constant, input, register, andGate, xorGate, muxGate, output, rowFromFields, rowAt, onRegister, isRegister}
 use Rattle.netlist.specs.Simulation.{Logic, ternaryLogic, rowValue, startBy, runState, ternaryState}
-use Rattle.netlist.proofs.WellFormed.{Ordered}
+use Rattle.netlist.specs.WellFormed.{Ordered}
 use Rattle.netlist.proofs.SimulationLaws.{held, state-at, value-at}
 use Rattle.lasso.specs.Generators.{stateValue}
 use Rattle.blockfile.proofs.CountLaws.{count-next}

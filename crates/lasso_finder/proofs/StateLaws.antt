@@ -11,7 +11,7 @@ use Rattle.ternary.proofs.RuleLaws.{value-of-code, code-below}
 use Rattle.netlist.specs.Limits.{mostOriginalRows, mostOriginalRegisters, foldWorkBytes, lastState}
 use Rattle.netlist.specs.Rows.{rowFromFields, isRegister}
 use Rattle.netlist.specs.Simulation.{ternaryLogic, complementIf, rowValue}
-use Rattle.netlist.proofs.WellFormed.{OperandsBelow}
+use Rattle.netlist.specs.WellFormed.{OperandsBelow}
 use Rattle.blockfile.specs.declared.Fields.{Fields}
 use Rattle.lasso_finder.specs.StateMap.{statePlace, valuePlace, codeAt, valueIn, Coded, literalIn, RowReady, rowIn}
 

@@ -22,7 +22,7 @@ use Rattle.netlist.specs.Limits.{mostRows, mostOriginalRows, mostOriginalRegist
 use Rattle.netlist.specs.Rows.{Row, register, decodeRow, rowAt, onRegister, isRegister, constant}
 use Rattle.netlist.specs.FileFormat.{rowOffset, readFields, netlistOf}
 use Rattle.netlist.specs.Simulation.{ternaryLogic, rowValue}
-use Rattle.netlist.proofs.WellFormed.{OperandsBelow}
+use Rattle.netlist.specs.WellFormed.{OperandsBelow}
 use Rattle.netlist.proofs.SimulationLaws.{row-cong}
 use Rattle.lasso.specs.Generators.{stateValue}
 use Rattle.blockfile.specs.RowCode.{fieldsIn}

@@ -13,7 +13,7 @@ use Rattle.netlist.specs.Limits.{mostOriginalRows, mostOriginalRegisters, foldW
 use Rattle.netlist.specs.Rows.{Row, decodeRow, rowAt, onRegister, isRegister}
 use Rattle.netlist.specs.FileFormat.{rowOffset, netlistOf}
 use Rattle.netlist.specs.Simulation.{ternaryLogic, literalValue, rowValue, runValue}
-use Rattle.netlist.proofs.WellFormed.{OperandsBelow, AcceptedRows}
+use Rattle.netlist.specs.WellFormed.{OperandsBelow, AcceptedRows}
 use Rattle.lasso.specs.Generators.{stateValue}
 use Rattle.lasso_finder.specs.WorkMap.{knownPlace}
 use Rattle.blockfile.specs.RowCode.{fieldsIn}

@@ -17,8 +17,8 @@ use Rattle.memory.proofs.FieldLaws.{u16-small, u16-read, u16-write, u32-read, b
 use Rattle.netlist.specs.Limits.{mostRows, mostPhases}
 use Rattle.netlist.specs.Rows.{Row, RowFields, encodeRow, decodeRow, rowFromFields, constant, rowAt, labelOf, input, register, andGate, xorGate, muxGate, output, phaseOf}
 use Rattle.netlist.specs.FileFormat.{lastMark, wordSum, blockCount, blockAt, rowOffset, readFields, rowCount, fieldsOf, fieldsAt, netlistOf, fieldBytes, rowBytes, blockBody, checkWord, blockBytes, blockRows, blocksFor, fileOf}
-use Rattle.netlist.proofs.RowLaws.{decode-rows, kind-le, EachRow}
-use Rattle.netlist.proofs.WellFormed.{OperandsBelow, NextBelow}
+use Rattle.netlist.proofs.RowLaws.{decode-rows, kind-le}
+use Rattle.netlist.specs.WellFormed.{EachRow, FieldsFit, OperandsBelow, NextBelow}
 
 -- ---- byte 0
 
@@ -57,12 +57,6 @@ pub block-size : (f : List ℕ) (B : ℕ) → 512 * B + 512 ≤ length f → len
 block-size f B h = simp (length-take, length-drop) (omega arith)
 
 -- ---- a row
-
--- What the fields a, b and c have room for.
-pub record FieldsFit (w : RowFields) : Type 0 where
-  pub a-fits : w .a < 2 ^ 16
-  pub b-fits : w .b < 2 ^ 16
-  pub c-fits : w .c < 2 ^ 16
 
 -- A row whose operands name rows below j, its next value a row below n, and whose label and phase are in range.
 pub row-fits : (j n : ℕ) → j ≤ mostRows → n ≤ mostRows → (r : Row) → OperandsBelow j r → NextBelow n r → labelOf r < 2 ^ 16 → phaseOf r < mostPhases → FieldsFit (encodeRow r)

@@ -1,6 +1,5 @@
 -- Laws of rows, runs, the three-valued run and files.
 pub mod RowLaws
-pub mod WellFormed
 pub mod SimulationLaws
 pub mod TernarySoundness
 pub mod FileLaws

@@ -14,6 +14,7 @@ use Rattle.memory.proofs.TestLaws.{and-true, last-or}
 use Rattle.memory.specs.Lists.{joinBelow}
 use Rattle.memory.proofs.ListLaws.{first-is, first-least}
 use Rattle.netlist.specs.Rows.{Row, constant, input, register, andGate, xorGate, muxGate, output, encodeRow, decodeRow, rowAt, kindOf, nameOf, labelOf, phaseOf, hasName, isNamed, isOutput, isUnknown, firstRow, HasRow, rowFromFields}
+use Rattle.netlist.specs.WellFormed.{EachRow, NextBelow}
 
 -- ---- fields
 
@@ -60,12 +61,6 @@ output-is (muxGate _ _ _) h = absurd (false≢true h)
 output-is (output a l p) h = (a, l, p, refl)
 
 -- ---- names
-
--- Two rows of one kind, label and phase.
-pub record SameName (r s : Row) : Type 0 where
-  pub kind : kindOf r ≡ kindOf s
-  pub label : labelOf r ≡ labelOf s
-  pub phase : phaseOf r ≡ phaseOf s
 
 -- Rows of one kind have names alike.
 pub named-alike : (r s : Row) → kindOf r ≡ kindOf s → hasName r ≡ true → hasName s ≡ true
@@ -156,10 +151,6 @@ in-left xs ys r h = record { place = h .place; within = omega (arith, h .within,
 pub in-right : (xs ys : List Row) (r : Row) → RowIn ys r → RowIn (xs ++ ys) r
 in-right xs ys r h = record { place = length xs + h .place; within = omega (arith, h .within, length-append xs ys); is = getD-append-add xs ys (h .place) constant ∙ h .is }
 
--- P holds of each row of the list.
-abbrev pub EachRow : (Row → Type 0) → List Row → Type 0
-EachRow P xs = (i : ℕ) → i < length xs → P (rowAt xs i)
-
 pub each-append : (P : Row → Type 0) (xs ys : List Row) → EachRow P xs → EachRow P ys → EachRow P (xs ++ ys)
 each-append P xs ys f g i h = elim (decLt i (length xs)) [
   | yes l ↦ rw (List·getD-append xs ys constant i l) (f i l)
@@ -182,3 +173,14 @@ pub in-join : (f : ℕ → List Row) (n j : ℕ) (r : Row) → j < n → RowIn (
 in-join f zero j r h x = absurd (omega arith)
 in-join f (suc n) j r h x =
     last-or j n h (λ l. in-left (joinBelow n f) (f n) r (in-join f n j r l x)) (λ e. in-right (joinBelow n f) (f n) r (subst (λ (k : ℕ). RowIn (f k) r) e x))
+
+-- ---- next values
+
+pub next-wider : (m n : ℕ) → m ≤ n → (r : Row) → NextBelow m r → NextBelow n r
+next-wider m n h constant b = tt
+next-wider m n h (input _ _) b = tt
+next-wider m n h (register _ _ _) b = omega (arith, b)
+next-wider m n h (andGate _ _) b = tt
+next-wider m n h (xorGate _ _) b = tt
+next-wider m n h (muxGate _ _ _) b = tt
+next-wider m n h (output _ _ _) b = tt

@@ -10,7 +10,7 @@ use lib.Seq.{getD-at}
 use Rattle.memory.proofs.TestLaws.{last-or}
 use Rattle.netlist.specs.Rows.{Row, constant, input, register, andGate, xorGate, muxGate, output, rowAt}
 use Rattle.netlist.specs.Simulation.{Logic, boolLogic, complementIf, literalValue, rowValue, valueAt, resetValue, nextValue, valuesUpTo, stepValues, runState, runValue}
-use Rattle.netlist.proofs.WellFormed.{OperandsBelow, Ordered}
+use Rattle.netlist.specs.WellFormed.{OperandsBelow, Ordered}
 
 module _ (L : Logic) where
   pub literal-cong : (w w′ : ℕ → L .Value) (l : ℕ) → w (l / 2) ≡ w′ (l / 2) → literalValue L w l ≡ literalValue L w′ l

@@ -18,8 +18,8 @@ use Rattle.memory.proofs.ListLaws.{count-some}
 use Rattle.netlist.specs.Limits.{mostPhases, mostOriginalRows, mostOriginalRegisters, mostSteps, mostRows}
 use Rattle.netlist.specs.Rows.{Row, constant, input, register, andGate, xorGate, muxGate, output, RowFields, encodeRow, rowFromFields, decodeRow, rowAt, phaseOf, hasName, isRegister, isOutput}
 use Rattle.netlist.specs.FileFormat.{blockCount, blockAt, fieldsOf, fieldsAt, netlistOf, blocksFor}
-use Rattle.netlist.proofs.RowLaws.{SameName, output-is, named-alike}
-use Rattle.netlist.proofs.WellFormed.{OperandsBelow, Ordered, NextBelow, ResetIn, NamesNode, OnLiterals, NamesUnique, AcceptedRows}
+use Rattle.netlist.proofs.RowLaws.{output-is, named-alike}
+use Rattle.netlist.specs.WellFormed.{CheckedRows, SameName, OperandsBelow, Ordered, NextBelow, ResetIn, NamesNode, OnLiterals, NamesUnique, AcceptedRows}
 use Rattle.netlist.proofs.FileLaws.{block-at, read-length}
 use Rattle.lasso.specs.LassoSearch.{Lasso, findLasso}
 use Rattle.questions.specs.Questions.{Refusal, noRefusal, question, itemQuestions, lengthRight, sumRight, headRight, countRight, unusedRight, blockQuestions, kindRight, fieldsRight, labelIsNew, namesEarlier, literalsRight, rowQuestions, rowsRefusal, fileRefusalWith, fileRefusal, phaseQuestion, originalRefusal, foldMemoryRight, hasLasso, foldRefusal, valueListsRight, allBinary, runMemoryRight, runRefusal, showRefusal}
@@ -250,17 +250,6 @@ module _ (operand : Operand) (ws : List RowFields) (R : RowsRight operand ws) wh
 
       same-sym : (r s : Row) → SameName r s → SameName s r
       same-sym r s n = record { kind = sym (n .kind); label = sym (n .label); phase = sym (n .phase) }
-
--- The netlist of a file that Check accepts.
-pub record CheckedRows (rows : List Row) : Type 0 where
-  pub ordered : Ordered rows
-  pub nexts : (x : ℕ) → x < length rows → NextBelow (length rows) (rowAt rows x)
-  pub resets : (x : ℕ) → x < length rows → ResetIn (rowAt rows x)
-  pub phases : (x : ℕ) → x < length rows → phaseOf (rowAt rows x) < mostPhases
-  pub constant-first : rowAt rows 0 ≡ constant
-  pub nodes-first : (x y : ℕ) → y < length rows → isOutput (rowAt rows x) ≡ true → isOutput (rowAt rows y) ≡ false → y < x
-  pub has-output : (x a l p : ℕ) × (x < length rows) × (rowAt rows x ≡ output a l p)
-  pub unique : NamesUnique rows
 
 pub rows-checked : (ws : List RowFields) → RowsRight namesEarlier ws → CheckedRows (map decodeRow ws)
 rows-checked ws R = record {

@@ -18,8 +18,8 @@ use Rattle.memory.proofs.ListLaws.{allBelow-iff}
 use Rattle.netlist.specs.Limits.{mostBlocks, mostFileBytes, mostPhases, foldResultBytes, foldWorkBytes, foldClockEntries, runWorkBytes}
 use Rattle.netlist.specs.Rows.{Row, constant, input, register, andGate, xorGate, muxGate, output, RowFields, encodeRow, rowFromFields, rowAt, kindOf, labelOf, phaseOf, hasName, isInput, isUnknown, isOutput}
 use Rattle.netlist.specs.FileFormat.{lastMark, wordSum, rightSum, blockCount, fieldsAt}
-use Rattle.netlist.proofs.RowLaws.{SameName, named-is, named-of}
-use Rattle.netlist.proofs.WellFormed.{ResetIn, NamesNode, OnLiterals}
+use Rattle.netlist.proofs.RowLaws.{named-is, named-of}
+use Rattle.netlist.specs.WellFormed.{SameName, ResetIn, NamesNode, OnLiterals}
 use Rattle.lasso.specs.LassoSearch.{Lasso, findLasso}
 use Rattle.questions.specs.Questions.{lengthRight, sumRight, headRight, countRight, unusedRight, kindRight, fieldsRight, sameName, labelIsNew, namesNode, namesEarlier, literalsRight, phaseQuestion, foldMemoryRight, hasLasso, valueListsRight, allBinary, runMemoryRight}
 

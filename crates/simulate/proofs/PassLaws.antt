@@ -19,7 +19,8 @@ use Rattle.netlist.specs.Rows.{Row, constant, input, register, andGate, xorGate
 use Rattle.netlist.specs.FileFormat.{rowOffset, netlistOf}
 use Rattle.netlist.specs.Simulation.{boolLogic, startBy, rowValue, resetValue, nextValue, valueAt, valuesUpTo, stepValues}
 use Rattle.netlist.specs.RunLayout.{placeAmong}
-use Rattle.netlist.proofs.WellFormed.{NextBelow, next-wider}
+use Rattle.netlist.specs.WellFormed.{NextBelow}
+use Rattle.netlist.proofs.RowLaws.{next-wider}
 use Rattle.netlist.proofs.SimulationLaws.{literal-cong, row-cong, values-length}
 use Rattle.blockfile.proofs.CountLaws.{count-next, count-some-le, count-place}
 use Rattle.simulate.specs.Values.{IsBinary, bit, bitAt, bitFrom, bitByte, bitBytes, heldIn, stateFrom, stepInputs, resetChoices, valuesBefore, valuesFrom}

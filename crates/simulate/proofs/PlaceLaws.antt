@@ -11,7 +11,7 @@ use Rattle.memory.specs.Lists.{countIf}
 use Rattle.memory.proofs.TestLaws.{passes, fails}
 use Rattle.netlist.specs.Rows.{Row, constant, input, register, rowAt, kindOf, labelOf, phaseOf, hasName, isNamed, isOutput, rowNamed}
 use Rattle.netlist.proofs.RowLaws.{named-is, named-of, has-at, has-of}
-use Rattle.netlist.proofs.WellFormed.{NamesUnique}
+use Rattle.netlist.specs.WellFormed.{NamesUnique}
 
 -- ---- a row found by its name
 

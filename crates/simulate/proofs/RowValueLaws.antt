@@ -12,7 +12,7 @@ use Rattle.netlist.specs.Rows.{Row, rowFromFields, rowAt, isInput, isUnknown}
 use Rattle.netlist.specs.FileFormat.{rowOffset, netlistOf}
 use Rattle.netlist.specs.Simulation.{boolLogic, boolXor, literalValue, rowValue, resetValue}
 use Rattle.netlist.proofs.RowLaws.{other-kind}
-use Rattle.netlist.proofs.WellFormed.{OperandsBelow, NextBelow}
+use Rattle.netlist.specs.WellFormed.{OperandsBelow, NextBelow}
 use Rattle.blockfile.proofs.CountLaws.{SortsBy, sorts-by}
 use Rattle.simulate.specs.Values.{IsBinary, bit, bitAt, bitFrom, bitByte, heldIn}
 use Rattle.simulate.specs.Steps.{RowReady}

@@ -14,7 +14,7 @@ use Rattle.netlist.specs.Rows.{constant, rowAt, isInput}
 use Rattle.netlist.specs.FileFormat.{rowOffset, netlistOf}
 use Rattle.netlist.specs.Simulation.{boolLogic, rowValue}
 use Rattle.netlist.specs.RunLayout.{placeAmong}
-use Rattle.netlist.proofs.WellFormed.{NextBelow}
+use Rattle.netlist.specs.WellFormed.{NextBelow}
 use Rattle.blockfile.proofs.CountLaws.{count-some-le}
 use Rattle.simulate.specs.Values.{IsBinary, bitAt, bitFrom, bitByte, bitBytes, heldIn, stateFrom, valuesBefore, valuesFrom}
 use Rattle.simulate.specs.Steps.{RowReady, NetlistReady, TwoHalves, BlockRows, ValuesStand}

@@ -11,8 +11,7 @@ use Rattle.memory.specs.Lists.{countIf}
 use Rattle.netlist.specs.Limits.{mostRows}
 use Rattle.netlist.specs.Rows.{Row, decodeRow, rowAt, isInput, isUnknown, isOutput}
 use Rattle.netlist.specs.FileFormat.{rowOffset, readFields, netlistOf}
-use Rattle.netlist.proofs.WellFormed.{OperandsBelow, ResetIn}
-use Rattle.questions.proofs.AcceptedFiles.{CheckedRows}
+use Rattle.netlist.specs.WellFormed.{OperandsBelow, ResetIn, CheckedRows}
 use Rattle.blockfile.specs.Ready.{Ready}
 use Rattle.simulate.specs.Values.{IsBinary, bitBytes, stateFrom, valuesBefore, shownBytes}
 

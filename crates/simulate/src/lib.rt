@@ -13,7 +13,7 @@ ghost use Rattle.netlist.specs.Rows.{rowAt, isInput, isUnknown, isOutput};
 ghost use Rattle.netlist.specs.FileFormat.{rowOffset, netlistOf};
 ghost use Rattle.netlist.specs.Simulation.{boolLogic, boolXor, literalValue, rowValue, resetValue};
 ghost use Rattle.netlist.specs.RunLayout.{placeAmong, runBytes};
-ghost use Rattle.netlist.proofs.WellFormed.{NextBelow};
+ghost use Rattle.netlist.specs.WellFormed.{NextBelow};
 ghost use Rattle.simulate.specs.Values.{IsBinary, bit, bitAt, bitFrom, bitByte, bitBytes, heldIn, stateFrom, resetChoices, valuesFrom};
 ghost use Rattle.simulate.specs.Steps.{RowReady, NetlistReady, WorkReady, TwoHalves, BlockRows, ValuesStand, Given, Stepped};
 use blockfile::BLOCK_BYTES;

@@ -1,14 +1,28 @@
--- What the questions say of rows, as propositions: literals that name rows in range, phases, resets, and names that are unique.
+-- What an accepted netlist is, as propositions: literals that name rows in range, phases, resets, names that are unique.
+-- Interface: CheckedRows (questions 6 to 10), AcceptedRows (6 to 13), and the words that they are made of.
 -- Assumes nothing.
-use Prim.Native.Nat.{ℕ, _<_, _≤_, _/_}
+use Prim.Native.Nat.{ℕ, _<_, _≤_, _/_, _^_}
 use mathlib.Core.Path.{_≡_}
 use mathlib.Core.Bool.{true, false}
-use mathlib.Core.List.{List}
-use native.Mathlib.Omega.{arith}
+use mathlib.Core.List.{List, [], _∷_}
 use lib.ListN.{length}
-use Rattle.netlist.specs.Limits.{mostOriginalRows}
-use Rattle.netlist.specs.Rows.{Row, constant, input, register, andGate, xorGate, muxGate, output, rowAt, onRegister, phaseOf, hasName, isOutput}
-use Rattle.netlist.proofs.RowLaws.{SameName}
+use Rattle.netlist.specs.Limits.{mostPhases, mostOriginalRows}
+use Rattle.netlist.specs.Rows.{Row, constant, input, register, andGate, xorGate, muxGate, output, RowFields, rowAt, kindOf, labelOf, phaseOf, onRegister, hasName, isOutput}
+
+-- P holds of each row of the list.
+abbrev pub EachRow : (Row → Type 0) → List Row → Type 0
+EachRow P xs = (i : ℕ) → i < length xs → P (rowAt xs i)
+
+-- Each number of the list is below n.
+abbrev pub EachBelow : ℕ → List ℕ → Type 0
+EachBelow n [] = Unit {0}
+EachBelow n (j ∷ js) = (j < n) × EachBelow n js
+
+-- What the fields a, b and c have room for.
+pub record FieldsFit (w : RowFields) : Type 0 where
+  pub a-fits : w .a < 2 ^ 16
+  pub b-fits : w .b < 2 ^ 16
+  pub c-fits : w .c < 2 ^ 16
 
 -- The operands of a gate, and an output's literal, name rows below j.
 abbrev pub OperandsBelow : ℕ → Row → Type 0
@@ -26,15 +40,6 @@ Ordered rows = (j : ℕ) → j < length rows → OperandsBelow j (rowAt rows j)
 -- A register's next value names a row below m.
 abbrev pub NextBelow : ℕ → Row → Type 0
 NextBelow m = onRegister (Unit {0}) (λ r n l. n / 2 < m)
-
-pub next-wider : (m n : ℕ) → m ≤ n → (r : Row) → NextBelow m r → NextBelow n r
-next-wider m n h constant b = tt
-next-wider m n h (input _ _) b = tt
-next-wider m n h (register _ _ _) b = omega (arith, b)
-next-wider m n h (andGate _ _) b = tt
-next-wider m n h (xorGate _ _) b = tt
-next-wider m n h (muxGate _ _ _) b = tt
-next-wider m n h (output _ _ _) b = tt
 
 -- A register's reset is 0, 1 or X.
 abbrev pub ResetIn : Row → Type 0
@@ -54,15 +59,32 @@ OnLiterals P Q (xorGate a b) = P a × P b
 OnLiterals P Q (muxGate a b c) = (P a × P b) × P c
 OnLiterals P Q (output a l p) = Q a
 
+-- Two rows of one kind, label and phase.
+pub record SameName (r s : Row) : Type 0 where
+  pub kind : kindOf r ≡ kindOf s
+  pub label : labelOf r ≡ labelOf s
+  pub phase : phaseOf r ≡ phaseOf s
+
+-- No two rows have one name: two rows of one kind, label and phase are one row.
+abbrev pub NamesUnique : List Row → Type 0
+NamesUnique rows = (x y : ℕ) → x < length rows → y < length rows → hasName (rowAt rows x) ≡ true → SameName (rowAt rows x) (rowAt rows y) → x ≡ y
+
+-- The netlist of a file that Check accepts.
+pub record CheckedRows (rows : List Row) : Type 0 where
+  pub ordered : Ordered rows
+  pub nexts : (x : ℕ) → x < length rows → NextBelow (length rows) (rowAt rows x)
+  pub resets : (x : ℕ) → x < length rows → ResetIn (rowAt rows x)
+  pub phases : (x : ℕ) → x < length rows → phaseOf (rowAt rows x) < mostPhases
+  pub constant-first : rowAt rows 0 ≡ constant
+  pub nodes-first : (x y : ℕ) → y < length rows → isOutput (rowAt rows x) ≡ true → isOutput (rowAt rows y) ≡ false → y < x
+  pub has-output : (x a l p : ℕ) × (x < length rows) × (rowAt rows x ≡ output a l p)
+  pub unique : NamesUnique rows
+
 -- A netlist that Fold accepts, as far as its values go.
 pub record WellFormed (rows : List Row) : Type 0 where
   pub ordered : Ordered rows
   pub nexts : (x : ℕ) → x < length rows → NextBelow (length rows) (rowAt rows x)
   pub phases : (x : ℕ) → x < length rows → phaseOf (rowAt rows x) ≡ 0
-
--- Two rows of one kind, label and phase are one row.
-abbrev pub NamesUnique : List Row → Type 0
-NamesUnique rows = (x y : ℕ) → x < length rows → y < length rows → hasName (rowAt rows x) ≡ true → SameName (rowAt rows x) (rowAt rows y) → x ≡ y
 
 -- What questions 6 to 13 say of the rows.
 pub record AcceptedRows (rows : List Row) : Type 0 where
