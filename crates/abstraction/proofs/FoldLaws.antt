@@ -1,4 +1,4 @@
--- What holds of Fold's answer for an original that is accepted: its numbers in the paper's words, its rows' shape and number, and demand 3.
+-- What holds of Fold's answer for an original that is accepted: its numbers and its clock list in the paper's words, its rows' shape and number, and demand 3.
 -- Assumes nothing.
 use Prim.Native.Nat.{ℕ, zero, suc, _<_, _≤_}
 use mathlib.Core.Path.{_≡_, refl, sym}
@@ -17,7 +17,7 @@ use Rattle.lasso.specs.Generators.{periodsOf, phaseCount, clockValue}
 use Rattle.lasso.proofs.LassoLaws.{lasso-is}
 use Rattle.lasso.proofs.GeneratorLaws.{periods-length}
 use Rattle.lasso.proofs.PhaseCountLaws.{phases-best, phases-wish, phases-pos, phases-le}
-use Rattle.lasso.proofs.ClockLaws.{entries-count, used-le}
+use Rattle.lasso.proofs.ClockLaws.{entries-words, entries-count, used-le}
 use Rattle.abstraction.specs.Compaction.{compact}
 use Rattle.abstraction.specs.Fold.{foldWith, FoldAnswer, foldFromLasso, foldNetlist, AnswerWords}
 use Rattle.abstraction.specs.SameBehaviour.{SameBehaviour, StandsFor}
@@ -62,6 +62,7 @@ module _ (rows : List Row) (wish : ℕ) (z : Lasso) (found : findLasso rows ≡ 
     used = sym (entries-count rows (periodsOf rows z) (phaseCount wish (periodsOf rows z)) (periods-length rows z));
     before = refl;
     after = refl;
+    clocks = entries-words rows z (lasso-is rows z found) (phaseCount wish (periodsOf rows z));
   }
 
   module _ (ok : AcceptedRows rows) (small : wish ≤ mostPhases) where

@@ -1,5 +1,5 @@
 -- The fold as a whole, and what Fold answers: the scope paper, "The fold" and "Operations and lent memory".
--- Interface: foldNetlist, FoldAnswer; AnswerWords says what its numbers are in the paper's words.
+-- Interface: foldNetlist, FoldAnswer; AnswerWords says what its numbers and its clock list are in the paper's words.
 -- Assumes nothing.
 use Prim.Native.Nat.{ℕ, _+_, _<_}
 use mathlib.Core.Path.{_≡_}
@@ -10,7 +10,7 @@ use Rattle.ternary.specs.Ternary.{Ternary}
 use Rattle.netlist.specs.Rows.{Row}
 use Rattle.lasso.specs.LassoSearch.{Lasso, findLasso, FirstRepeat}
 use Rattle.lasso.specs.Generators.{periodsOf, usedCount, phaseCount, clockValue, IsBestCount}
-use Rattle.lasso.specs.ClockEntries.{ClockEntry, clockEntries}
+use Rattle.lasso.specs.ClockEntries.{ClockEntry, clockEntries, ClockListWords}
 use Rattle.abstraction.specs.Unrolling.{unrolledNetlist}
 use Rattle.abstraction.specs.Compaction.{compact}
 
@@ -51,7 +51,7 @@ foldNetlist rows wish = elim (findLasso rows) [ none ↦ none | some z ↦ some 
 
 -- ---- in the paper's words
 
--- What the numbers of an answer are: stem and cycle are those of the first repeat; N is the wish, or with wish 0 the smallest number with the highest count; the used generators are those listed; the row counts are those of the two netlists.
+-- What an answer's numbers and clock list are: stem and cycle are those of the first repeat; N is the wish, or with wish 0 the smallest number with the highest count; the used generators are those listed; the row counts are those of the two netlists; the clock list has one entry per used generator, in row order.
 pub record AnswerWords (rows : List Row) (wish : ℕ) (answer : FoldAnswer) : Type 0 where
   pub lasso : FirstRepeat rows (answer .stem) (answer .stem + answer .cycle)
   pub wished : 0 < wish → answer .phases ≡ wish
@@ -59,3 +59,4 @@ pub record AnswerWords (rows : List Row) (wish : ℕ) (answer : FoldAnswer) : Ty
   pub used : answer .used ≡ length (answer .clocks)
   pub before : answer .before ≡ length rows
   pub after : answer .after ≡ length (answer .rows)
+  pub clocks : ClockListWords rows (record { stem = answer .stem; cycle = answer .cycle }) (answer .phases) (answer .clocks)

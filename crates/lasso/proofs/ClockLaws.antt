@@ -1,24 +1,27 @@
--- The clock list: bit k of a word is the value at phase k, so `ones` counts the phases whose value is 1; the list has one entry for each used generator.
+-- The clock list in the paper's words: bit k of a word is the value at phase k, so `ones` counts the phases whose value is 1; the list has one entry for each used generator, in row order.
 -- Assumes nothing.
 use Prim.Native.Nat.{ℕ, zero, suc, _+_, _-_, _*_, _<_, _≤_, _/_, _%_, _^_}
 use mathlib.Core.Path.{_≡_, refl, sym, ap, ap₂, _∙_, subst}
-use mathlib.Core.Bool.{Bool, true, false, cond}
-use mathlib.Core.List.{List, [], _∷_}
+use mathlib.Core.Bool.{Bool, true, false, cond, false≢true}
+use mathlib.Core.List.{List, [], _∷_, _++_, append-nil}
 use native.Mathlib.Omega.{arith}
 use native.Mathlib.Nat.{pow-suc, mul-assoc, mul-comm, mul-le-mul-right, add-comm, add-mul-div-right, add-mul-mod-self-right, mod-eq-of-lt}
 use lib.Arith.{digits-div}
 use lib.Pow.{pow-pos, pow-add}
-use lib.ListN.{length, getD, take, length-append}
-use lib.Seq.{take-suc, take-length}
+use borrow.Author.Tests.{eqb-true, eq-eqb, ltb-true, lt-ltb, le-ltb}
+use lib.Dec.{eqb, ltb}
+use lib.ListN.{length, getD, take, length-append, List·getD-append}
+use lib.Seq.{take-suc, take-length, getD-at}
 use Rattle.memory.specs.Lists.{joinBelow, tabulate, countIf}
-use Rattle.memory.proofs.TestLaws.{cond-case, last-or}
-use Rattle.memory.proofs.ListLaws.{count-last}
+use Rattle.memory.proofs.TestLaws.{cond-case, last-or, and-true, passes}
+use Rattle.memory.proofs.ListLaws.{count-last, tabulate-at, tabulate-cong}
 use Rattle.ternary.specs.Ternary.{Ternary, lo, hi, X, equal3}
 use Rattle.netlist.specs.Rows.{Row, constant, rowAt, isRegister}
 use Rattle.lasso.specs.LassoSearch.{Lasso}
-use Rattle.lasso.specs.Generators.{periodOf, periodsOf, isUsed, usedCount}
-use Rattle.lasso.proofs.GeneratorLaws.{period-other}
-use Rattle.lasso.specs.ClockEntries.{ClockEntry, bitOf, clockWord, bitsSet, clockEntry, clockEntries}
+use Rattle.lasso.specs.Generators.{periodOf, periodsOf, isUsed, usedCount, stateValue, clockValue, IsPeriod}
+use Rattle.lasso.proofs.LassoLaws.{IsLasso}
+use Rattle.lasso.proofs.GeneratorLaws.{period-other, generator-known, period-is, period-unique}
+use Rattle.lasso.specs.ClockEntries.{ClockEntry, bitOf, clockWord, bitsSet, clockEntry, clockEntries, entryAt, EntryWords, ClockListWords}
 
 bit-lt : (v : Ternary) → bitOf v < 2
 bit-lt lo = omega arith
@@ -70,6 +73,116 @@ module _ (f : ℕ → Ternary) where
   -- Ones, the set bits of the word, are the phases whose value is 1.
   pub ones-high : (n : ℕ) → bitsSet (clockWord f n) n ≡ highPhases n
   ones-high n = bits-high n n (omega arith)
+
+-- ---- the entries
+
+-- A list with f i for each i below n that passes a test, in order: element j is that of the number `from j`.
+module _ {A : Type 0} (test : ℕ → Bool) (f : ℕ → A) (d : A) where
+  record Picks (n : ℕ) (xs : List A) : Type 0 where
+    from : ℕ → ℕ
+    picked : (j : ℕ) → j < length xs → (from j < n) × (test (from j) ≡ true) × (getD xs j d ≡ f (from j))
+    ascending : (j k : ℕ) → j < k → k < length xs → from j < from k
+    complete : (i : ℕ) → i < n → test i ≡ true → (j : ℕ) × (j < length xs) × (from j ≡ i)
+
+  picks-next : (n : ℕ) (xs : List A) → Picks n xs → (t : Bool) → test n ≡ t → Picks (suc n) (xs ++ cond t (f n ∷ []) [])
+  picks-next n xs P false e =
+      subst (Picks (suc n)) (sym (append-nil xs))
+      (record {
+        from = P .from;
+        picked = λ j h. let b = P .picked j h in (omega (arith, b .0), b .1, b .2);
+        ascending = P .ascending;
+        complete = λ i h t. last-or i n h (λ l. P .complete i l t) (λ q. absurd (false≢true (sym e ∙ ap test (sym q) ∙ t)));
+      })
+  picks-next n xs P true e = record {
+    from = from;
+    picked = λ j h.
+        last-or j (length xs) (omega (arith, longer, h))
+        (λ l.
+        let b = P .picked j l in
+        let o = old j l in (
+          omega (arith, o, b .0),
+          ap test o ∙ b .1,
+          List·getD-append xs (f n ∷ []) d j l ∙ b .2 ∙ ap f (sym o),
+        ))
+        (λ q.
+        let o = last j q in (
+          omega (arith, o),
+          ap test o ∙ e,
+          getD-at xs (f n) [] d j (sym q) ∙ ap f (sym o),
+        ));
+    ascending = λ j k l h.
+        last-or k (length xs) (omega (arith, longer, h))
+        (λ q. omega (arith, old j (omega arith), old k q, P .ascending j k l q))
+        (λ q. omega (arith, old j (omega arith), last k q, P .picked j (omega arith) .0));
+    complete = λ i h t.
+        last-or i n h
+        (λ l. let c = P .complete i l t in (c .0, omega (arith, longer, c .1), old (c .0) (c .1) ∙ c .2))
+        (λ q. (length xs, omega (arith, longer), last (length xs) refl ∙ sym q));
+  }
+    where
+      from : ℕ → ℕ
+      from j = cond (ltb j (length xs)) (P .from j) n
+
+      longer : length (xs ++ (f n ∷ [])) ≡ length xs + 1
+      longer = length-append xs (f n ∷ [])
+
+      old : (j : ℕ) → j < length xs → from j ≡ P .from j
+      old j l = rw (lt-ltb j (length xs) l)
+
+      last : (j : ℕ) → j ≡ length xs → from j ≡ n
+      last j q = rw (le-ltb j (length xs) (omega arith))
+
+  picks-all : (n : ℕ) → Picks n (joinBelow n (λ i. cond (test i) (f i ∷ []) []))
+  picks-all zero = record { from = λ j. 0; picked = λ j h. absurd (omega arith); ascending = λ j k l h. absurd (omega arith); complete = λ i h t. absurd (omega arith) }
+  picks-all (suc n) = picks-next n _ (picks-all n) (test n) refl
+
+-- The list of a lasso's generators.
+module _ (rows : List Row) (z : Lasso) (is : IsLasso rows z) (N : ℕ) where
+  abbrev ps : List ℕ
+  ps = periodsOf rows z
+
+  abbrev used : ℕ → Bool
+  used i = isUsed N (getD ps i 0)
+
+  period-at : (i : ℕ) → i < length rows → getD ps i 0 ≡ periodOf rows z i
+  unfolding periodsOf
+  period-at i h = tabulate-at (length rows) (periodOf rows z) i 0 h
+
+  entry-words : (i : ℕ) → i < length rows → used i ≡ true → EntryWords rows z N i (clockEntry rows ps N i)
+  unfolding clockEntry clockValue
+  entry-words i h u =
+      let p = getD ps i 0 in
+      let f = clockValue rows ps N i in
+      let e : p ≡ periodOf rows z i = period-at i h in
+      let b = and-true (ltb 0 p) (eqb (N % p) 0) u in
+      let pos = ltb-true 0 p (b .0) in
+      let w : IsPeriod rows z i p = subst (IsPeriod rows z i) (sym e) (period-is rows z is i (omega arith)) in
+      let value : (k : ℕ) → f k ≡ stateValue rows i (k % p) = λ k. rw u in
+      record {
+        of-register = passes (isRegister (rowAt rows i)) (λ q. omega (arith, period-other rows z i q));
+        label = refl;
+        period = w;
+        divides = eqb-true (N % p) 0 (b .1);
+        known = λ k l. generator-known rows z is i p pos (w .generates) (k % p);
+        bits = λ k l. word-bit f N k l ∙ ap bitOf (value k);
+        no-other-bit = word-lt f N;
+        ones = ones-high f N ∙ ap (countIf (λ v. equal3 v hi)) (tabulate-cong N f (λ k. stateValue rows i (k % p)) (λ k l. value k));
+      }
+
+  -- One entry per used generator, in row order.
+  pub entries-words : ClockListWords rows z N (clockEntries rows ps N)
+  unfolding clockEntries
+  entries-words =
+      let P : Picks used (clockEntry rows ps N) (entryAt [] 0) (length rows) (clockEntries rows ps N) = picks-all used (clockEntry rows ps N) (entryAt [] 0) (length rows) in
+      record {
+        row = P .from;
+        within = λ j h. P .picked j h .0;
+        ascending = P .ascending;
+        entry = λ j h. let b = P .picked j h in rw (b .2) (entry-words (P .from j) (b .0) (b .1));
+        complete = λ i p h r w d.
+            let e : getD ps i 0 ≡ p = period-at i h ∙ period-unique rows z is i p r w in
+            P .complete i h (rw (e, lt-ltb 0 p (w .nonzero), eq-eqb (N % p) 0 d));
+      }
 
 module _ (rows : List Row) (ps : List ℕ) (N : ℕ) where
   -- The entries of row i: one, or none.

@@ -6,7 +6,7 @@ use mathlib.Core.Bool.{Bool, true, false, _&&_, false≢true}
 use mathlib.Core.List.{List}
 use native.Mathlib.Omega.{arith}
 use native.Mathlib.Decide.{decLt}
-use native.Mathlib.Nat.{add-mod, add-zero, mod-mod, mod-mod-of-dvd, dvd-of-mod-eq-zero, mod-eq-of-lt}
+use native.Mathlib.Nat.{add-mod, add-zero, mod-mod, mod-mod-of-dvd, dvd-of-mod-eq-zero, mod-eq-of-lt, mod-lt}
 use borrow.Author.Tests.{eqb-true, leb-true, le-leb, ltb-true}
 use lib.Dec.{eqb, ltb, leb}
 use lib.ListN.{length, getD, List·getD-eq-default}
@@ -73,6 +73,10 @@ module _ (rows : List Row) (z : Lasso) (is : IsLasso rows z) where
     pub generator-always : (t : ℕ) → stateValue rows i t ≡ stateValue rows i (t % p)
     generator-always t = generator-upto t t (omega arith)
 
+    -- It is never X.
+    pub generator-known : (t : ℕ) → isKnown (stateValue rows i t) ≡ true
+    generator-known t = ap isKnown (generator-always t) ∙ early (t % p) (omega (arith, mod-lt t p-pos, generator-le)) .0
+
   -- Of a number n: if it is not 0 it is the period of row i, and if it is 0 a register in row i has no generator.
   abbrev Answers : ℕ → ℕ → Type 0
   Answers i n = (0 < n → IsPeriod rows z i n) × (isRegister (rowAt rows i) ≡ true → n ≡ 0 → (q : ℕ) → 0 < q → isGenerator rows z i q ≡ true → ⊥)
@@ -97,6 +101,13 @@ module _ (rows : List Row) (z : Lasso) (is : IsLasso rows z) where
 
   pub period-none : (i : ℕ) → isRegister (rowAt rows i) ≡ true → periodOf rows z i ≡ 0 → (q : ℕ) → 0 < q → isGenerator rows z i q ≡ true → ⊥
   period-none i = period-answers i .1
+
+  -- There is no other period.
+  pub period-unique : (i p : ℕ) → isRegister (rowAt rows i) ≡ true → IsPeriod rows z i p → periodOf rows z i ≡ p
+  period-unique i p r w = elim (decLt 0 (periodOf rows z i)) [
+    | yes h ↦ (let v = period-is i h in omega (arith, v .least p (w .nonzero) (w .generates), w .least (periodOf rows z i) h (v .generates)))
+    | no h ↦ absurd (period-none i r (omega arith) p (w .nonzero) (w .generates))
+  ]
 
   -- A period in the list generates its row.
   pub periods-generate : (i : ℕ) → 0 < getD (periodsOf rows z) i 0 → isGenerator rows z i (getD (periodsOf rows z) i 0) ≡ true

@@ -1,7 +1,7 @@
--- The lasso in the paper's words: it is the first repeat, compared from state 0 up; there is no other; there is none exactly if states 0 to 256 all differ. From the stem on the states repeat with the cycle.
+-- The lasso in the paper's words: it is the first repeat, compared from state 0 up; there is no other; there is none exactly if states 0 to 256 all differ. From the stem on the states repeat with the cycle. Without registers stem is 0 and cycle 1.
 -- Assumes nothing.
 use Prim.Native.Nat.{ℕ, zero, suc, _+_, _-_, _<_, _≤_}
-use mathlib.Core.Path.{_≡_, refl, sym, ap, _∙_, subst}
+use mathlib.Core.Path.{_≡_, refl, sym, ap, ap₂, _∙_, subst}
 use mathlib.Core.Logic.{_↔_}
 use mathlib.Core.Bool.{true, false≢true}
 use mathlib.Core.List.{List, [], _∷_, map}
@@ -11,13 +11,14 @@ use native.Mathlib.Decide.{decLt}
 use native.Mathlib.Nat.{add-suc, add-zero}
 use borrow.Author.Tests.{ltb-true, ltb-false, leb-true, leb-false}
 use lib.Dec.{ltb}
+use Rattle.memory.specs.Lists.{countIf}
 use Rattle.memory.proofs.TestLaws.{and-true, cond-case}
 use Rattle.memory.proofs.ListLaws.{first-is, first-least}
 use Rattle.ternary.specs.Ternary.{Ternary, X, equal3}
 use Rattle.ternary.proofs.RuleLaws.{equal3-true, equal3-same}
 use Rattle.netlist.specs.Limits.{lastState}
-use Rattle.netlist.specs.Rows.{Row}
-use Rattle.netlist.specs.Simulation.{ternaryLogic, valueAt, nextValue, stepValues, runState, ternaryState}
+use Rattle.netlist.specs.Rows.{Row, constant, input, register, andGate, xorGate, muxGate, output, isRegister}
+use Rattle.netlist.specs.Simulation.{ternaryLogic, valueAt, resetValue, nextValue, stepValues, runState, ternaryState}
 use Rattle.lasso.specs.LassoSearch.{equalStates, isRepeat, earlierEqual, firstRepeat, Lasso, findLasso, AllDiffer, FirstRepeat}
 
 pub states-equal : (s s′ : List Ternary) → equalStates s s′ ≡ true → s ≡ s′
@@ -128,3 +129,30 @@ module _ (rows : List Row) where
       ap (ternaryState rows) (add-suc _ d)
       ∙ ap (λ (s : List Ternary). map (nextValue ternaryLogic (valueAt ternaryLogic (stepValues ternaryLogic rows s (λ l p. X)))) rows) (lasso-repeats z is d)
       ∙ sym (ap (ternaryState rows) (add-suc _ d))
+
+-- ---- without registers
+
+-- A row that is no register starts as it goes on.
+module _ (c w : ℕ → Ternary) where
+  same-next : (r : Row) (n : ℕ) → countIf isRegister (r ∷ []) + n ≡ 0 → nextValue ternaryLogic w r ≡ resetValue ternaryLogic c r
+  same-next constant n h = refl
+  same-next (input _ _) n h = refl
+  same-next (register _ _ _) n h = absurd (omega arith)
+  same-next (andGate _ _) n h = refl
+  same-next (xorGate _ _) n h = refl
+  same-next (muxGate _ _ _) n h = refl
+  same-next (output _ _ _) n h = refl
+
+  same-state : (rows : List Row) → countIf isRegister rows ≡ 0 → map (nextValue ternaryLogic w) rows ≡ map (resetValue ternaryLogic c) rows
+  same-state [] h = refl
+  same-state (r ∷ rows) h = cc (same-next r (countIf isRegister rows) (omega arith), same-state rows (omega arith))
+
+-- Without registers stem is 0 and cycle 1.
+pub no-registers-lasso : (rows : List Row) → countIf isRegister rows ≡ 0 → findLasso rows ≡ some (record { stem = 0; cycle = 1 })
+unfolding runState
+no-registers-lasso rows h =
+    let same = same-state (λ l. X) (valueAt ternaryLogic (stepValues ternaryLogic rows (ternaryState rows 0) (λ l p. X))) rows h in
+    let first : FirstRepeat rows 0 1 = record { earlier = omega arith; equal = same; first = λ a b k l e. omega arith } in
+    let z = lasso-found rows 0 1 first (omega arith) in
+    let u = lasso-unique rows (z .0) (z .1) 0 1 first in
+    z .1 ∙ ap₂ {C = Option Lasso} (λ n m. some (record { stem = n; cycle = m })) (u .0) (omega (arith, u .0, u .1))
