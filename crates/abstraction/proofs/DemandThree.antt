@@ -15,7 +15,7 @@ use borrow.Author.Tests.{ltb-true, lt-ltb}
 use Rattle.memory.proofs.TestLaws.{cond-case}
 use Rattle.ternary.specs.Ternary.{Ternary}
 use Rattle.ternary.proofs.RuleLaws.{Covers}
-use Rattle.netlist.specs.Rows.{Row, constant, input, register, andGate, xorGate, muxGate, output, encodeRow, rowAt, kindOf, labelOf, phaseOf, hasName, isUnknown, isNamed, rowNamed, firstRow, HasRow, HasRegister, HasUnknown, HasOutput}
+use Rattle.netlist.specs.Rows.{Row, constant, input, register, andGate, xorGate, muxGate, output, encodeRow, rowAt, kindOf, labelOf, phaseOf, hasName, isUnknown, isNamed, rowNamed, firstRow, HasRow, HasInput, HasRegister, HasUnknown, HasOutput}
 use Rattle.netlist.specs.Simulation.{boolLogic, valueAt, runState, runValue, RunValues, outputShows, registerHolds}
 use Rattle.netlist.proofs.RowLaws.{RowIn, named-is, named-of, named-input, named-register, named-output, unknown-is, unknown-of, has-at, has-of}
 use Rattle.netlist.specs.WellFormed.{ResetIn, AcceptedRows}
@@ -136,7 +136,7 @@ module _ (rows : List Row) (ok : AcceptedRows rows) (M : ℕ) (clock : ℕ → �
               let hy = has-at (isNamed 1 m k) new i in
               let e = named-input m k (rowAt new (rowNamed 1 m k new)) (hy .1) in
               let b : k < N = subst (λ (x : Row). phaseOf x < N) e (origin clock rows M (rowNamed 1 m k new) (hy .0) (ap hasName e) .phase) in
-              agree .inputs (g * N + k) m q (rw (digits-mod g b) i);
+              agree .inputs (g * N + k) m q (subst (HasInput new m) (sym (digits-mod g b)) i);
         } in
         let present = outputs-present l (t % N) has (mod-lt t (omega arith)) in
         sym (outputs-alike T run₁ groups fed₁ t l h has present) ∙ outputs-alike T run₂ groups fed₂ t l h has present
