@@ -32,6 +32,22 @@ figure2 = constant ∷ input 0 0 ∷ register 1 5 0 ∷ register 0 7 1 ∷ regis
 abbrev pub figure2States : List (List Ternary)
 figure2States = map (λ (s : List Ternary). take 4 (drop 2 s)) (tabulate 5 (ternaryState figure2))
 
+-- Three registers in a ring, of which the first is 0, 1, 1 and again; and its fold in six phases, which has outputs of constants alone.
+abbrev pub ring : List Row
+ring = constant ∷ register 0 4 0 ∷ register 1 6 1 ∷ register 1 2 2 ∷ output 2 0 0 ∷ []
+
+abbrev pub ringFold : FoldAnswer
+ringFold = record {
+  stem = 0;
+  cycle = 3;
+  phases = 6;
+  used = 3;
+  before = 5;
+  after = 7;
+  clocks = record { label = 0; period = 3; word = 54; ones = 4 } ∷ record { label = 1; period = 3; word = 27; ones = 4 } ∷ record { label = 2; period = 3; word = 45; ones = 4 } ∷ [];
+  rows = constant ∷ output 0 0 0 ∷ output 1 0 1 ∷ output 1 0 2 ∷ output 0 0 3 ∷ output 1 0 4 ∷ output 1 0 5 ∷ [];
+}
+
 -- The printed sample, and its fold.
 abbrev pub sample : List Row
 sample = constant ∷ input 0 0 ∷ register 0 5 0 ∷ register 0 10 1 ∷ register 0 12 2 ∷ muxGate 4 2 6 ∷ muxGate 4 8 6 ∷ output 8 0 0 ∷ []

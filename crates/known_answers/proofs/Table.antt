@@ -1,43 +1,45 @@
--- The entries of the trainer's table that are marked as proved, and the printed sample, as one claim, by computation.
+-- The entries of the trainer's table that are marked as proved, and the printed sample, as one claim. All but the entries on lengths are computed.
 -- Assumes nothing.
-use Prim.Native.Nat.{ℕ, _%_}
+use Prim.Native.Nat.{ℕ}
 use mathlib.Core.Path.{_≡_, refl}
-use mathlib.Core.List.{[], _∷_}
+use mathlib.Core.Bool.{false}
+use mathlib.Core.List.{List, [], _∷_}
 use mathlib.Core.Option.{some}
-use lib.ListN.{length, getD, replicate}
+use lib.ListN.{length}
 use Rattle.memory.specs.Lists.{tabulate}
-use Rattle.ternary.specs.Ternary.{Ternary, lo, hi, X, not3, and3, xor3, mux3}
+use Rattle.ternary.specs.Ternary.{lo, hi, X, not3, and3, xor3, mux3}
 use Rattle.netlist.specs.Limits.{foldResultBytes, foldWorkBytes, foldClockEntries}
 use Rattle.netlist.specs.Rows.{xorGate}
 use Rattle.netlist.specs.Simulation.{valuesUpTo, stepValues, runState}
 use Rattle.netlist.specs.FileFormat.{wordSum, fieldsOf, netlistOf, blockBody, checkWord, blockBytes, fileOf}
 use Rattle.lasso.specs.LassoSearch.{Lasso, earlierEqual, firstRepeat, findLasso}
-use Rattle.lasso.specs.Generators.{isGenerator, periodOf, periodsOf, bestPhaseCount, phaseCount, clockValue}
+use Rattle.lasso.specs.Generators.{stateValue, isGenerator, periodOf, periodsOf, bestPhaseCount, phaseCount, clockValue}
 use Rattle.lasso.specs.ClockEntries.{clockWord, bitsSet, clockEntry, clockEntries}
 use Rattle.abstraction.specs.GateMaking.{existing, newRow, makeAnd, makeXor, makeMux, addImage}
 use Rattle.abstraction.specs.Unrolling.{unrollPhase, unrollPhases, phaseOutputs, unrolledNetlist}
 use Rattle.abstraction.specs.Compaction.{markSweep, markFixpoint, coneOfInfluence, newIndex, compactUpTo, compact}
 use Rattle.abstraction.specs.Fold.{foldWith, foldFromLasso, foldNetlist}
-use Rattle.questions.specs.Questions.{noRefusal, blockQuestions, rowQuestions, rowsRefusal, fileRefusalWith, fileRefusal, originalRefusal, foldRefusal}
-use Rattle.known_answers.proofs.Examples.{zeroBody, zeroBlock, wire, rise, figure2, figure2States, sample, sampleFold}
+use Rattle.questions.specs.Questions.{noRefusal, lengthRight, blockQuestions, rowQuestions, rowsRefusal, fileRefusalWith, fileRefusal, originalRefusal, foldRefusal}
+use Rattle.known_answers.proofs.Examples.{zeroBody, zeroBlock, wire, rise, figure2, figure2States, ring, ringFold, sample, sampleFold}
 use Rattle.known_answers.proofs.LongFile.{longest, longest-length, longest-accepted}
 
 abbrev figure2Lasso : Lasso
 figure2Lasso = record { stem = 2; cycle = 2 }
 
--- The values of a generator 0, 1, 1 in each phase.
-abbrev zeroOneOne : ℕ → Ternary
-zeroOneOne k = getD (lo ∷ hi ∷ hi ∷ []) (k % 3) X
+-- A file of a wrong length is refused with 1, whatever its bytes are.
+length-refused : (f : List ℕ) → lengthRight f ≡ false → fileRefusal f ≡ record { number = 1; place = 0 }
+unfolding fileRefusalWith
+length-refused f h = rw h
 
 pub record Table : Type 0 where
   -- Head 2, 0, 1, 0, all rows zero: check 4,294,901,757; refused 10.
   pub zero-rows-check : checkWord zeroBody ≡ 4294901757
   pub zero-rows-refused-10 : fileRefusal zeroBlock ≡ record { number = 10; place = 0 }
-  -- Lengths 0 and 511: 1. 65,536 may pass; 66,048: 1.
-  pub length-0-refused-1 : fileRefusal [] ≡ record { number = 1; place = 0 }
-  pub length-511-refused-1 : fileRefusal (replicate 511 0) ≡ record { number = 1; place = 0 }
+  -- Lengths 0 and 511: 1. 65,536 may pass; 66,048: 1. Every file of such a length is refused.
+  pub length-0-refused-1 : (f : List ℕ) → length f ≡ 0 → fileRefusal f ≡ record { number = 1; place = 0 }
+  pub length-511-refused-1 : (f : List ℕ) → length f ≡ 511 → fileRefusal f ≡ record { number = 1; place = 0 }
   pub length-65536-passes : (length longest ≡ 65536) × (fileRefusal longest ≡ noRefusal)
-  pub length-66048-refused-1 : fileRefusal (replicate 66048 0) ≡ record { number = 1; place = 0 }
+  pub length-66048-refused-1 : (f : List ℕ) → length f ≡ 66048 → fileRefusal f ≡ record { number = 1; place = 0 }
   -- One input as output, no register: stem 0, cycle 1, N 1.
   pub no-register-stem-0-cycle-1-phases-1 : foldNetlist wire 0 ≡ some (record { stem = 0; cycle = 1; phases = 1; used = 0; before = 3; after = 3; clocks = []; rows = wire })
   -- Reset 0, next 1: stem 1, cycle 1, no generator.
@@ -53,9 +55,11 @@ pub record Table : Type 0 where
   pub periods-1-2-3-3-phases-6 : phaseCount 0 (1 ∷ 2 ∷ 3 ∷ 3 ∷ []) ≡ 6
   pub periods-5-2-phases-2 : phaseCount 0 (5 ∷ 2 ∷ []) ≡ 2
   pub no-periods-phases-1 : phaseCount 0 [] ≡ 1
-  -- Generator 0, 1, 1 with N 6: word 54, ones 4.
-  pub generator-011-word-54 : clockWord zeroOneOne 6 ≡ 54
-  pub generator-011-ones-4 : bitsSet 54 6 ≡ 4
+  -- Generator 0, 1, 1 with N 6: word 54, ones 4. The first register of a ring, whose file passes Fold's questions with wish 6; the fold's clock entries have the word and ones.
+  pub generator-011-values : tabulate 3 (stateValue ring 1) ≡ lo ∷ hi ∷ hi ∷ []
+  pub generator-011-passes-fold : foldRefusal (fileOf ring) 6 foldResultBytes foldWorkBytes foldClockEntries ≡ noRefusal
+  pub generator-011-read : netlistOf (fileOf ring) ≡ ring
+  pub generator-011-word-54-ones-4 : foldNetlist ring 6 ≡ some ringFold
   -- AND of 6 and 7: 0. XOR of 7 and 4: inverse of XOR of 4 and 6.
   pub and-6-7-is-0 : makeAnd 6 7 ≡ existing 0
   pub xor-7-4-is-inverse-of-xor-4-6 : makeXor 7 4 ≡ newRow (xorGate 4 6) 1
@@ -72,10 +76,10 @@ unfolding not3 and3 xor3 mux3 valuesUpTo stepValues runState wordSum fieldsOf ne
 table = record {
   zero-rows-check = refl;
   zero-rows-refused-10 = refl;
-  length-0-refused-1 = refl;
-  length-511-refused-1 = refl;
+  length-0-refused-1 = λ f e. length-refused f (rw e);
+  length-511-refused-1 = λ f e. length-refused f (rw e);
   length-65536-passes = (longest-length, longest-accepted);
-  length-66048-refused-1 = refl;
+  length-66048-refused-1 = λ f e. length-refused f (rw e);
   no-register-stem-0-cycle-1-phases-1 = refl;
   rise-stem-1-cycle-1 = refl;
   rise-no-generator = refl;
@@ -87,8 +91,10 @@ table = record {
   periods-1-2-3-3-phases-6 = refl;
   periods-5-2-phases-2 = refl;
   no-periods-phases-1 = refl;
-  generator-011-word-54 = refl;
-  generator-011-ones-4 = refl;
+  generator-011-values = refl;
+  generator-011-passes-fold = refl;
+  generator-011-read = refl;
+  generator-011-word-54-ones-4 = refl;
   and-6-7-is-0 = refl;
   xor-7-4-is-inverse-of-xor-4-6 = refl;
   mux-x-1-1-is-x = refl;
