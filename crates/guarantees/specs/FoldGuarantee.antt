@@ -17,7 +17,7 @@ use Rattle.questions.specs.Questions.{noRefusal, fileRefusal}
 pub record FoldGuarantee (file : List ℕ) (wish : ℕ) : Type 0 where
   pub answer : FoldAnswer
   pub folds : foldNetlist (netlistOf file) wish ≡ some answer
-  -- stem, cycle, N, used generators and row counts are those of the paper
+  -- stem, cycle, N, used generators, row counts and the clock list are those of the paper
   pub words : AnswerWords (netlistOf file) wish answer
   -- N is 1 to 8, and the folded netlist has 1 to 8,064 rows; its file fits the result, and its clock entries the list
   pub phases : (1 ≤ answer .phases) × (answer .phases ≤ mostPhases)
