@@ -21,7 +21,7 @@ use Rattle.netlist.proofs.RowLaws.{named-alike}
 use Rattle.netlist.specs.WellFormed.{SameName}
 use Rattle.questions.specs.Questions.{labelIsNew}
 use Rattle.questions.proofs.PlainWords.{labelIsNew-iff}
-use Rattle.accept.specs.Marks.{labels, allSlots, slotOf, markBytes, bitOf, bitAt, Marked, MarksOf}
+use Rattle.accept.specs.Marks.{labels, allSlots, slotOf, markBytes, bitOf, bitAt, withBit, MarksOf}
 
 -- ---- bits
 
@@ -34,38 +34,38 @@ or-one (suc (suc n)) h = absurd (omega arith)
 or-left : (b m j : ℕ) → b / 2 ^ j % 2 ≡ 1 → bitOr b m / 2 ^ j % 2 ≡ 1
 or-left b m j h = ap (λ (n : ℕ). n % 2) (or-shr b m j) ∙ or-mod (b / 2 ^ j) (m / 2 ^ j) 1 ∙ ap (λ (n : ℕ). bitOr n (m / 2 ^ j % 2)) h ∙ or-one (m / 2 ^ j % 2) (omega arith)
 
--- The mark, as the code has it, has the bit set.
-mark-bit : (k : ℕ) → k < 8 → 1 * 2 ^ k % 2 ^ 8 / 2 ^ k % 2 ≡ 1
-mark-bit k h = ap (λ (n : ℕ). n % 2 ^ 8 / 2 ^ k % 2) (one-mul (2 ^ k)) ∙ ap (λ (n : ℕ). n / 2 ^ k % 2) (mod-eq-of-lt (pow-lt {i = k} {j = 8} h)) ∙ ap (λ (n : ℕ). n % 2) (div-self (pow-pos k))
+-- The mark has the bit set.
+mark-bit : (k : ℕ) → 2 ^ k / 2 ^ k % 2 ≡ 1
+mark-bit k = ap (λ (n : ℕ). n % 2) (div-self (pow-pos k))
+
+-- The mark as the code has it.
+mark-small : (k : ℕ) → k < 8 → 1 * 2 ^ k % 2 ^ 8 ≡ 2 ^ k
+mark-small k h = ap (λ (n : ℕ). n % 2 ^ 8) (one-mul (2 ^ k)) ∙ mod-eq-of-lt (pow-lt {i = k} {j = 8} h)
+
+pub bit-set : (marks : List ℕ) (s : ℕ) → set marks (s / 8) (bitOr (byteAt marks (s / 8)) (1 * 2 ^ (s % 8) % 2 ^ 8)) ≡ withBit marks s
+bit-set marks s = ap (λ (m : ℕ). set marks (s / 8) (bitOr (byteAt marks (s / 8)) m)) (mark-small (s % 8) (omega arith))
 
 module _ (marks : List ℕ) (s : ℕ) (inside : s / 8 < length marks) where
-  -- The mark, the byte with it, and the marks with that byte.
   abbrev mark : ℕ
-  mark = 1 * 2 ^ (s % 8) % 2 ^ 8
+  mark = 2 ^ (s % 8)
 
   abbrev byte : ℕ
   byte = bitOr (byteAt marks (s / 8)) mark
 
-  abbrev after : List ℕ
-  after = set marks (s / 8) byte
-
-  byte-is : byteAt after (s / 8) ≡ byte
+  byte-is : byteAt (withBit marks s) (s / 8) ≡ byte
   byte-is = getD-set-same marks (s / 8) byte 0 inside
 
-  pub set-bit : Marked s marks after
-  set-bit = record {
-    size = length-set marks (s / 8) byte;
-    here = ap (λ (b : ℕ). b / 2 ^ (s % 8) % 2) (byte-is ∙ or-comm (byteAt marks (s / 8)) mark) ∙ or-left mark (byteAt marks (s / 8)) (s % 8) (mark-bit (s % 8) (omega arith));
-    kept = λ t. go t;
-  }
-    where
-      go : (t : ℕ) → bitAt marks t ≡ 1 → bitAt after t ≡ 1
-      go t h = elim (ℕ-discrete (s / 8) (t / 8)) [
-        | yes e ↦
-            subst (λ (x : ℕ). byteAt marks x / 2 ^ (t % 8) % 2 ≡ 1 → byteAt after x / 2 ^ (t % 8) % 2 ≡ 1) e
-            (λ g. ap (λ (b : ℕ). b / 2 ^ (t % 8) % 2) byte-is ∙ or-left (byteAt marks (s / 8)) mark (t % 8) g) h
-        | no n ↦ ap (λ (b : ℕ). b / 2 ^ (t % 8) % 2) (getD-set-other marks (s / 8) (t / 8) byte 0 (λ q. n (sym q))) ∙ h
-      ]
+  -- The bit is set, and no other is cleared.
+  bit-here : bitAt (withBit marks s) s ≡ 1
+  bit-here = ap (λ (b : ℕ). b / 2 ^ (s % 8) % 2) (byte-is ∙ or-comm (byteAt marks (s / 8)) mark) ∙ or-left mark (byteAt marks (s / 8)) (s % 8) (mark-bit (s % 8))
+
+  bits-kept : (t : ℕ) → bitAt marks t ≡ 1 → bitAt (withBit marks s) t ≡ 1
+  bits-kept t h = elim (ℕ-discrete (s / 8) (t / 8)) [
+    | yes e ↦
+        subst (λ (x : ℕ). byteAt marks x / 2 ^ (t % 8) % 2 ≡ 1 → byteAt (withBit marks s) x / 2 ^ (t % 8) % 2 ≡ 1) e
+        (λ g. ap (λ (b : ℕ). b / 2 ^ (t % 8) % 2) byte-is ∙ or-left (byteAt marks (s / 8)) mark (t % 8) g) h
+    | no n ↦ ap (λ (b : ℕ). b / 2 ^ (t % 8) % 2) (getD-set-other marks (s / 8) (t / 8) byte 0 (λ q. n (sym q))) ∙ h
+  ]
 
 -- ---- the bits of names
 
@@ -109,16 +109,18 @@ module _ {few : Bool} {rows : List Row} {i : ℕ} {marks : List ℕ} (M : MarksO
 
   -- A row with a name: its bit is set afterwards; if it was free, the name is new.
   module _ {slot : ℕ} (slot-is : slot ≡ slotOf (rowAt rows i)) {bit : ℕ} (bit-is : bit ≡ bitOf few slot) where
-    bit-here : bit ≡ bitOf few (slotOf (rowAt rows i))
-    bit-here = bit-is ∙ ap (bitOf few) slot-is
+    bit-of-name : bit ≡ bitOf few (slotOf (rowAt rows i))
+    bit-of-name = bit-is ∙ ap (bitOf few) slot-is
 
-    pub marks-named : {after : List ℕ} → Marked bit marks after → MarksOf few rows (i + 1) after
-    marks-named {after = after} S = marks-more after (S .size) (S .kept) (λ _. subst (λ (b : ℕ). bitAt after b ≡ 1) bit-here (S .here))
+    pub marks-named : slot < allSlots → {after : List ℕ} → after ≡ withBit marks bit → MarksOf few rows (i + 1) after
+    marks-named h e =
+        let inside : bit / 8 < length marks = omega (arith, bit-is, bit-inside few slot (length marks) h (M .size)) in
+        rw e (marks-more (withBit marks bit) (length-set marks (bit / 8) _) (bits-kept marks bit inside) (λ _. subst (λ (b : ℕ). bitAt (withBit marks bit) b ≡ 1) bit-of-name (bit-here marks bit inside)))
 
     pub label-free : {free : Bool} → free ≡ eqb (bitAt marks bit) 0 → free ≡ true → true ≡ labelIsNew rows i
     label-free r e =
         let z = eqb-true (bitAt marks bit) 0 (sym r ∙ e) in
         sym (labelIsNew-iff rows i .1 (λ j l n.
         let t = M .taken j l (named-alike (rowAt rows i) (rowAt rows j) (n .1 .kind) (n .0)) in
-        let q = ap (bitAt marks) (bit-here ∙ ap (bitOf few) (same-slot (rowAt rows i) (rowAt rows j) (n .1))) in
+        let q = ap (bitAt marks) (bit-of-name ∙ ap (bitOf few) (same-slot (rowAt rows i) (rowAt rows j) (n .1))) in
         omega (arith, z, t, q)))

@@ -4,7 +4,8 @@ use Prim.Native.Nat.{ℕ, _+_, _*_, _<_, _/_, _%_, _^_}
 use mathlib.Core.Path.{_≡_}
 use mathlib.Core.Bool.{Bool, true, cond}
 use mathlib.Core.List.{List}
-use lib.ListN.{length}
+use lib.ListN.{length, set}
+use lib.Bits.{bitOr}
 use Rattle.memory.specs.Fields.{byteAt}
 use Rattle.netlist.specs.Limits.{mostPhases}
 use Rattle.netlist.specs.Rows.{Row, rowAt, labelOf, phaseOf, hasName, isInput, isRegister, isOutput}
@@ -45,13 +46,11 @@ bitOf few slot = cond few ((slot + slot / labels * 352) % fewBits) slot
 abbrev pub bitAt : List ℕ → ℕ → ℕ
 bitAt marks s = byteAt marks (s / 8) / 2 ^ (s % 8) % 2
 
--- Bit s is set, and no other is cleared.
-pub record Marked (s : ℕ) (before after : List ℕ) : Type 0 where
-  pub size : length after ≡ length before
-  pub here : bitAt after s ≡ 1
-  pub kept : (t : ℕ) → bitAt before t ≡ 1 → bitAt after t ≡ 1
+-- The marks with bit s set.
+abbrev pub withBit : List ℕ → ℕ → List ℕ
+withBit marks s = set marks (s / 8) (bitOr (byteAt marks (s / 8)) (2 ^ (s % 8)))
 
--- Each name of the first n rows has its bit set; so a name whose bit is not set is new.
+-- Each name of the first n rows has its bit set; so a name whose bit is not set is new. This only limits the marks: a bit that no name has may be set too, since nothing rests on it but a comparison more.
 pub record MarksOf (few : Bool) (rows : List Row) (n : ℕ) (marks : List ℕ) : Type 0 where
   pub size : length marks ≡ markBytes few
   pub taken : (j : ℕ) → j < n → hasName (rowAt rows j) ≡ true → bitAt marks (bitOf few (slotOf (rowAt rows j))) ≡ 1

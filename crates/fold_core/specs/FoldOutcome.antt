@@ -32,7 +32,7 @@ pub record FoldDone (file : List ℕ) (wish work clocks : ℕ) (result result′
   pub guarantee : foldingRefusal answer ≡ noRefusal → FoldGuarantee file wish
   pub left : foldingRefusal answer ≡ noRefusal → LeftFolded file (numbersIn answer .phases) (fileLeft result′ (numbersIn answer .after))
 
--- The same, and the entries in the work memory.
+-- The same, and the entries in the work memory. Of work this only limits what is left: the entries are told, and the other bytes are the stages' scratch, which the rules leave open until Fold clears all of it.
 pub record CoreFolded (file : List ℕ) (wish clocks : ℕ) (result result′ work work′ : List ℕ) (answer : Folding) : Type 0 where
   pub done : FoldDone file wish (length work) clocks result result′ answer
   pub entries : entriesIn work′ (usedIn answer) ≡ entriesOf (foldAnswered file wish (length result) (length work) clocks)

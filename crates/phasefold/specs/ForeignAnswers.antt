@@ -12,7 +12,7 @@ use Rattle.questions.specs.Questions.{Refusal, fileRefusal, Counts, countsOf}
 use Rattle.run_core.specs.Ran.{Ran}
 use Rattle.run_core.specs.RunAnswers.{runAnswered}
 use Rattle.run_core.specs.declared.RunAnswer.{RunAnswer}
-use Rattle.phasefold.specs.Outcomes.{Shown}
+use Rattle.phasefold.specs.Outcomes.{ShownBytes, partOffset}
 use Rattle.phasefold.specs.declared.foreign.PfRefusal.{PfRefusal}
 use Rattle.phasefold.specs.declared.foreign.PfCounts.{PfCounts}
 use Rattle.phasefold.specs.declared.foreign.PfShown.{PfShown}
@@ -32,8 +32,8 @@ countNumbers file = cond (eqb (fileRefusal file .number) 0) (acceptedCounts (cou
 
 -- The part is told by its first byte and its size in the file; the outcome is Show's.
 pub record ShownFlat (file : List ℕ) (block : ℕ) (r : PfShown) : Type 0 where
-  pub shown : Shown file block (take (r .size) (drop (r .offset) file)) (r .number) (r .place)
-  pub offset-is : r .offset ≡ cond (eqb (r .number) 0) (512 * block + 4) 0
+  pub shown : ShownBytes file block (take (r .size) (drop (r .offset) file)) (r .number) (r .place)
+  pub offset-is : r .offset ≡ partOffset (r .number) block
   pub size-is : r .size ≡ cond (eqb (r .number) 0) 504 0
 
 -- Run's outcome, with its answer as numbers.

@@ -10,6 +10,7 @@ ghost use Rattle.run_core.specs.RunAnswers.{runRefusalIn};
 ghost use Rattle.accept.specs.Refusals.{refusalIn};
 ghost use Rattle.fold_core.specs.FoldAnswers.{foldRefusalIn};
 ghost use Rattle.phasefold.specs.ForeignAnswers.{refusalNumbers, acceptedCounts, countNumbers, ShownFlat, RanFlat};
+ghost use Rattle.phasefold.specs.Outcomes.{partOffset};
 ghost use Rattle.phasefold.specs.ForeignFold.{foldedNumbers, FoldedFlat};
 use super::CountAnswer;
 use accept::Acceptance;
@@ -127,7 +128,7 @@ pub struct PfShown {
 
 fn part_offset(number: u32, block: u32) -> u32
     requires { ⌜ (number ≡ 0 → block < mostBlocks) ⌝ }
-    ensures { λ r. ⌜ r ≡ cond (eqb number 0) (512 * block + 4) 0 ⌝ }
+    ensures { λ r. ⌜ r ≡ partOffset number block ⌝ }
 {
     if number == 0 { 512 * block + 4 } else { 0 }
 }

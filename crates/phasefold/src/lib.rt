@@ -37,7 +37,7 @@ pub fn count(file: &[u8]) -> CountAnswer
 
 // The row part of a block, in the caller's own file.
 pub fn show<'a>(file: &'a [u8], block: u32, number: &mut u32, place: &mut u32) -> &'a [u8]
-    ensures { λ r. ⌜ Shown (now (file .entry)) block (now r) (now (number .exit)) (now (place .exit)) ⌝ }
+    ensures { λ r. ⌜ Shown (now (file .entry)) (file .entry .ptr) block (now r) (r .ptr) (now (number .exit)) (now (place .exit)) ⌝ }
 {
     match accept::accept(file) {
         Acceptance::Accepted => {

@@ -329,7 +329,7 @@ fn step(
     show(work, shown, outputs, result, to);
 }
 
-// A run of this many steps over an accepted file of this many rows; the first `nodes` of them are its nodes.
+// A run of this many steps over an accepted file of this many rows; the first `nodes` of them are its nodes. What is left in work is open: the last steps' values, which Run clears.
 pub fn run_steps(
     file: &[u8],
     rows: usize,

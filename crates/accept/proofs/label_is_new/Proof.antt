@@ -18,13 +18,13 @@ same-length : tie.Need-same-length
 same-length c = search needs
 
 returns : tie.Need-returns
-returns c = let p = c .before .before .before .before .before .before .before .before .before .pre .1 in (label-free (p .1) (p .0 .1 .0) (c .before .before .before .before .before .bit-of .ensures) (c .before .before .before .mark-new .ensures .0) (c .if2 .taken), marks-named (p .1) (p .0 .1 .0) (c .before .before .before .before .before .bit-of .ensures) (c .before .before .before .mark-new .ensures .1))
+returns c = let p = c .before .before .before .before .before .before .before .before .before .pre .1 in (label-free (p .1) (p .0 .1 .0) (c .before .before .before .before .before .bit-of .ensures) (c .before .before .before .mark-new .ensures .0) (c .if2 .taken), marks-named (p .1) (p .0 .1 .0) (c .before .before .before .before .before .bit-of .ensures) (p .0 .1 .1) (c .before .before .before .mark-new .ensures .1))
 
 same-length-2 : tie.Need-same-length-2
 same-length-2 c = search needs
 
 returns-2 : tie.Need-returns-2
-returns-2 c = let p = c .before .before .before .before .before .before .before .before .before .before .pre .1 in (c .name-is-new .ensures, marks-named (p .1) (p .0 .1 .0) (c .before .before .before .before .before .before .bit-of .ensures) (c .before .before .before .before .mark-new .ensures .1))
+returns-2 c = let p = c .before .before .before .before .before .before .before .before .before .before .pre .1 in (c .name-is-new .ensures, marks-named (p .1) (p .0 .1 .0) (c .before .before .before .before .before .before .bit-of .ensures) (p .0 .1 .1) (c .before .before .before .before .mark-new .ensures .1))
 
 returns-3 : tie.Need-returns-3
 returns-3 c = let p = c .before .before .before .pre .1 in label-none (p .1) (p .0 .0) (c .if1 .left)

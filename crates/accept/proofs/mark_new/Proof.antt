@@ -1,9 +1,8 @@
 -- `mark_new` meets its contract: the bit is read, then set.
 -- Assumes nothing.
 use mathlib.Core.Path.{refl}
-use native.Mathlib.Omega.{arith}
 use borrow.Author.Needs.{needs}
-use Rattle.accept.proofs.MarkLaws.{set-bit}
+use Rattle.accept.proofs.MarkLaws.{bit-set}
 use Rattle.accept.proofs.mark_new.Statement.{statement}
 use Rattle.accept.proofs.mark_new.Tie as tie
 
@@ -29,7 +28,7 @@ same-length : tie.Need-same-length
 same-length c = search needs
 
 returns : tie.Need-returns
-returns c = (refl, set-bit (c .before .args .marks .now) (c .before .args .bit) (omega (arith, c .before .pre)))
+returns c = (refl, bit-set (c .before .args .marks .now) (c .before .args .bit))
 
 pub mark-new-spec : {M : Type 1} → statement M
 mark-new-spec =

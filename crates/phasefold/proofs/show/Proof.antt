@@ -59,13 +59,13 @@ part-result-end-3 : tie.Need-part-result-end-3
 part-result-end-3 c = search needs
 
 returns : tie.Need-returns
-returns c = block-shown (c .before .before .before .before .before .before .args .file .now) (c .before .before .before .before .before .before .args .block) (c .before .before .before .before .accept .result) (c .before .before .before .before .accept .ensures) (512 * c .before .before .before .before .before .before .args .block + 4 + 504 - (512 * c .before .before .before .before .before .before .args .block + 4)) (omega arith) (c .before .before .enum-told .given .1) (c .before .if1 .taken)
+returns c = block-shown (c .before .before .before .before .before .before .args .file .now) (c .before .before .before .before .before .before .args .file .ptr) (c .before .before .before .before .before .before .args .block) (c .before .before .before .before .accept .result) (c .before .before .before .before .accept .ensures) (512 * c .before .before .before .before .before .before .args .block + 4 + 504 - (512 * c .before .before .before .before .before .before .args .block + 4)) (omega arith) (c .before .before .enum-told .given .1) (c .before .if1 .taken)
 
 returns-2 : tie.Need-returns-2
-returns-2 c = block-missing (c .before .before .before .before .before .before .args .file .now) (c .before .before .before .before .before .before .args .block) (c .before .before .before .before .accept .result) (c .before .before .before .before .accept .ensures) (c .before .before .enum-told .given .1) (c .before .if1 .left)
+returns-2 c = block-missing (c .before .before .before .before .before .before .args .file .now) (c .before .before .before .before .before .before .args .file .ptr) (c .before .before .before .before .before .before .args .block) (c .before .before .before .before .accept .result) (c .before .before .before .before .accept .ensures) (c .before .before .enum-told .given .1) (c .before .if1 .left)
 
 returns-3 : tie.Need-returns-3
-returns-3 c = file-refused (c .before .before .before .before .before .before .before .before .args .file .now) (c .before .before .before .before .before .before .before .before .args .block) (c .before .before .before .before .before .before .accept .result) (c .before .before .before .before .before .before .accept .ensures) (c .before .before .before .before .refusal .given .0 .0) (c .before .before .number-of .result) (c .before .place-of .result) (c .before .before .before .before .refusal .given .1) (c .before .before .number-of .ensures) (c .before .place-of .ensures)
+returns-3 c = file-refused (c .before .before .before .before .before .before .before .before .args .file .now) (c .before .before .before .before .before .before .before .before .args .file .ptr) (c .before .before .before .before .before .before .before .before .args .block) (c .before .before .before .before .before .before .accept .result) (c .before .before .before .before .before .before .accept .ensures) (c .before .before .before .before .refusal .given .0 .0) (c .before .before .number-of .result) (c .before .place-of .result) (c .before .before .before .before .refusal .given .1) (c .before .before .number-of .ensures) (c .before .place-of .ensures)
 
 pub show-spec : {M : Type 1} → statement M
 show-spec =

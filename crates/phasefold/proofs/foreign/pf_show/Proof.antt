@@ -10,13 +10,13 @@ show-requires : tie.Need-show-requires
 show-requires c κs = search needs
 
 cast-size : tie.Need-cast-size
-cast-size c = omega (arith, size-small (c .before .before .before .before .args .file .now) (c .before .before .before .before .args .block) (c .show .result .now) (c .show .last .1 .1 .0) (c .show .last .1 .1 .1 .0) (c .show .ensures))
+cast-size c = omega (arith, size-small (c .before .before .before .before .args .file .now) (c .before .before .before .before .args .block) (c .show .result .now) (c .show .last .1 .1 .0) (c .show .last .1 .1 .1 .0) (c .show .ensures .bytes))
 
 part-offset-requires : tie.Need-part-offset-requires
-part-offset-requires c κs = shown-few (c .before .before .before .before .args .file .now) (c .before .before .before .before .args .block) (c .show .result .now) (c .show .last .1 .1 .0) (c .show .last .1 .1 .1 .0) (c .show .ensures)
+part-offset-requires c κs = shown-few (c .before .before .before .before .args .file .now) (c .before .before .before .before .args .block) (c .show .result .now) (c .show .last .1 .1 .0) (c .show .last .1 .1 .1 .0) (c .show .ensures .bytes)
 
 returns : tie.Need-returns
-returns c = shown-flat (c .before .before .before .before .before .args .file .now) (c .before .before .before .before .before .args .block) (c .before .show .result .now) (c .before .show .last .1 .1 .0) (c .before .show .last .1 .1 .1 .0) (c .before .show .ensures) (c .part-offset .result) (c .part-offset .ensures)
+returns c = shown-flat (c .before .before .before .before .before .args .file .now) (c .before .before .before .before .before .args .block) (c .before .show .result .now) (c .before .show .last .1 .1 .0) (c .before .show .last .1 .1 .1 .0) (c .before .show .ensures .bytes) (c .part-offset .result) (c .part-offset .ensures)
 
 pub pf-show-spec : {M : Type 1} → statement M
 pf-show-spec = tie.close (tie.spec show-requires cast-size part-offset-requires returns)
