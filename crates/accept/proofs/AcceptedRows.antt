@@ -15,7 +15,8 @@ use Rattle.netlist.specs.FileFormat.{blockCount, blockAt, rowOffset, readFields
 use Rattle.netlist.proofs.FileLaws.{read-length, row-at}
 use Rattle.questions.specs.Questions.{noRefusal, lengthRight, namesEarlier, fileRefusal}
 use Rattle.questions.proofs.QuestionLaws.{number-none, items-none}
-use Rattle.questions.proofs.PlainWords.{LengthWords, lengthRight-iff, BlockWords}
+use Rattle.questions.specs.QuestionWords.{LengthWords}
+use Rattle.questions.proofs.PlainWords.{lengthRight-iff, BlockWords}
 use Rattle.questions.proofs.AcceptedFiles.{FileRight, file-right, block-right, last-count, rows-of-file}
 use Rattle.accept.specs.Refusals.{blockAsked, blocksRefusal}
 use Rattle.accept.specs.RowChecks.{BlocksRight, RowsOf}

@@ -11,7 +11,7 @@ use Rattle.netlist.specs.Limits.{mostRows}
 use Rattle.netlist.specs.Rows.{Row, RowFields, decodeRow, rowAt, hasName, isOutput}
 use Rattle.netlist.specs.FileFormat.{blockCount, rowCount}
 use Rattle.questions.specs.Questions.{fieldsRight, namesEarlier, literalsRight}
-use Rattle.questions.proofs.PlainWords.{LengthWords}
+use Rattle.questions.specs.QuestionWords.{LengthWords}
 use Rattle.accept.specs.declared.RowTests.{RowTests}
 use Rattle.accept.specs.Marks.{slotOf}
 

@@ -20,7 +20,8 @@ use Rattle.abstraction.specs.Fold.{FoldAnswer, foldWith, foldFromLasso, foldNet
 use Rattle.abstraction.proofs.FoldLaws.{fold-answers}
 use Rattle.questions.specs.Questions.{Refusal, noRefusal, namesEarlier, fileRefusal, originalRefusal, argumentQuestions}
 use Rattle.questions.proofs.QuestionLaws.{NoneRefuses, all-none, number-none, question-none}
-use Rattle.questions.proofs.PlainWords.{MemoryRight, foldMemoryRight-iff}
+use Rattle.questions.specs.FoldRefusalWords.{MemoryRight}
+use Rattle.questions.proofs.PlainWords.{foldMemoryRight-iff}
 use Rattle.questions.proofs.AcceptedFiles.{FileRight, OriginalRight, file-right, original-right}
 use Rattle.blockfile.specs.Ready.{Ready}
 use Rattle.lasso_finder.specs.StateMap.{AnalysisReady}

@@ -14,7 +14,8 @@ use Rattle.netlist.proofs.RowLaws.{decode-rows}
 use Rattle.netlist.specs.WellFormed.{EachRow, ResetIn, FieldsFit, CheckedRows}
 use Rattle.netlist.proofs.FileLaws.{writtenBlock, block-head, block-unused, block-sum, part-small, part-length, file-length, file-blocks, block-back, fields-back, read-back, file-is-bytes, row-fits}
 use Rattle.questions.specs.Questions.{noRefusal, namesEarlier, fileRefusal}
-use Rattle.questions.proofs.PlainWords.{LengthWords, BlockWords}
+use Rattle.questions.specs.QuestionWords.{LengthWords}
+use Rattle.questions.proofs.PlainWords.{BlockWords}
 use Rattle.questions.proofs.AcceptedFiles.{RowsRight, rows-right, file-yes, rows-checked}
 use Rattle.guarantees.specs.RoundTrips.{Writable}
 

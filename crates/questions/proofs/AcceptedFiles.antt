@@ -24,7 +24,9 @@ use Rattle.netlist.proofs.FileLaws.{block-at, read-length}
 use Rattle.lasso.specs.LassoSearch.{Lasso, findLasso}
 use Rattle.questions.specs.Questions.{Refusal, noRefusal, question, itemQuestions, lengthRight, sumRight, headRight, countRight, unusedRight, blockQuestions, kindRight, fieldsRight, labelIsNew, namesEarlier, literalsRight, rowQuestions, rowsRefusal, fileRefusalWith, fileRefusal, phaseQuestion, originalRefusal, foldMemoryRight, hasLasso, foldRefusal, valueListsRight, allBinary, runMemoryRight, runRefusal, showRefusal}
 use Rattle.questions.proofs.QuestionLaws.{all-none, all-yes, _then_, number-none, question-none, question-of, items-none, items-yes, passed, passed-of}
-use Rattle.questions.proofs.PlainWords.{LengthWords, lengthRight-iff, BlockWords, sumRight-iff, headRight-iff, countRight-iff, unusedRight-iff, KindWords, kindRight-iff, FieldsWords, fieldsRight-iff, labelIsNew-iff, literalsRight-iff, namesEarlier-iff, phaseQuestion-iff, MemoryRight, foldMemoryRight-iff, hasLasso-iff}
+use Rattle.questions.specs.QuestionWords.{LengthWords, KindWords, FieldsWords}
+use Rattle.questions.specs.FoldRefusalWords.{MemoryRight}
+use Rattle.questions.proofs.PlainWords.{lengthRight-iff, BlockWords, sumRight-iff, headRight-iff, countRight-iff, unusedRight-iff, kindRight-iff, fieldsRight-iff, labelIsNew-iff, literalsRight-iff, namesEarlier-iff, phaseQuestion-iff, foldMemoryRight-iff, hasLasso-iff}
 
 -- What a gate's operands may name.
 abbrev pub Operand : Type 0
@@ -51,14 +53,14 @@ module _ (operand : Operand) (ws : List RowFields) where
   pub row-right : (i : ℕ) → rowQuestions operand ws i ≡ 0 → RowRight operand ws i
   unfolding rowQuestions
   row-right i h =
-      let k = passed (kindRight ws (map decodeRow ws) i) 5 _ h in
-      let f = passed _ 6 _ (k .1) in
-      let l = passed _ 7 _ (f .1) in
-      record { kind = k .0; fields = f .0; label = l .0; literals = passed _ 8 _ (l .1) .0 }
+      let k = passed (kindRight ws (map decodeRow ws) i) _ _ h in
+      let f = passed _ _ _ (k .1) in
+      let l = passed _ _ _ (f .1) in
+      record { kind = k .0; fields = f .0; label = l .0; literals = passed _ _ _ (l .1) .0 }
 
   pub row-yes : (i : ℕ) → RowRight operand ws i → rowQuestions operand ws i ≡ 0
   unfolding rowQuestions
-  row-yes i R = passed-of _ 6 _ (R .kind) (passed-of _ 7 _ (R .fields) (passed-of _ 8 _ (R .label) (passed-of _ 9 _ (R .literals) refl)))
+  row-yes i R = passed-of _ _ _ (R .kind) (passed-of _ _ _ (R .fields) (passed-of _ _ _ (R .label) (passed-of _ _ _ (R .literals) refl)))
 
   abbrev rowsAsked : List Refusal
   rowsAsked = itemQuestions (length ws) (rowQuestions operand ws) ∷ question 10 (ltb 0 (countIf isOutput (map decodeRow ws))) ∷ []
@@ -86,27 +88,27 @@ module _ (k B : ℕ) (b : List ℕ) where
   pub block-right : blockQuestions k B b ≡ 0 → BlockWords k B b
   unfolding blockQuestions
   block-right h =
-      let s = passed (sumRight b) 1 _ h in
-      let d = passed (headRight k B b) 2 _ (s .1) in
-      let c = passed (countRight k B b) 3 _ (d .1) in
+      let s = passed (sumRight b) _ _ h in
+      let d = passed (headRight k B b) _ _ (s .1) in
+      let c = passed (countRight k B b) _ _ (d .1) in
       let head = headRight-iff k B b .0 (d .0) in
       let count = countRight-iff k B b .0 (c .0) in
       record {
         sum = sumRight-iff k B b .0 (s .0);
-        mark = head .0 .0;
-        number = head .0 .1;
-        zero-byte = head .1;
-        count-last = count .0;
-        count-other = count .1;
-        unused = unusedRight-iff k B b .0 (passed (unusedRight b) 4 _ (c .1) .0);
+        mark = head .mark;
+        number = head .number;
+        zero-byte = head .zero-byte;
+        count-last = count .last;
+        count-other = count .other;
+        unused = unusedRight-iff k B b .0 (passed (unusedRight b) _ _ (c .1) .0);
       }
 
   pub block-yes : BlockWords k B b → blockQuestions k B b ≡ 0
   unfolding blockQuestions
   block-yes w =
-      passed-of _ 2 _ (sumRight-iff k B b .1 (w .sum))
-      (passed-of _ 3 _ (headRight-iff k B b .1 ((w .mark, w .number), w .zero-byte))
-      (passed-of _ 4 _ (countRight-iff k B b .1 (w .count-last, w .count-other)) (passed-of _ 5 _ (unusedRight-iff k B b .1 (w .unused)) refl)))
+      passed-of _ _ _ (sumRight-iff k B b .1 (w .sum))
+      (passed-of _ _ _ (headRight-iff k B b .1 (record { mark = w .mark; number = w .number; zero-byte = w .zero-byte }))
+      (passed-of _ _ _ (countRight-iff k B b .1 (record { last = w .count-last; other = w .count-other })) (passed-of _ _ _ (unusedRight-iff k B b .1 (w .unused)) refl)))
 
 -- Questions 1 to 10 are answered with yes.
 pub record FileRight (operand : Operand) (f : List ℕ) : Type 0 where

@@ -1,4 +1,8 @@
--- Laws of the questions: lists of questions, what each test means, what an accepted file is like.
+-- Laws of the questions: lists of questions, what each test means, what an accepted file is like, what a refusal means.
 pub mod QuestionLaws
 pub mod PlainWords
 pub mod AcceptedFiles
+pub mod AskedLaws
+pub mod RefusalMeaning
+pub mod FoldRefusalMeaning
+pub mod PrefixLaws

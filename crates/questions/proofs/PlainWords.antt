@@ -14,22 +14,19 @@ use borrow.Author.Tests.{ltb-true, leb-true, eqb-true, lt-ltb, le-leb}
 use Rattle.memory.specs.Lists.{countIf}
 use Rattle.memory.specs.Fields.{byteAt}
 use Rattle.memory.proofs.TestLaws.{and-true, leb-iff, ltb-iff, eqb-iff, not-iff, none-iff, and-iff, or-iff, cond-iff}
-use Rattle.memory.proofs.ListLaws.{allBelow-iff}
-use Rattle.netlist.specs.Limits.{mostBlocks, mostFileBytes, mostPhases, foldResultBytes, foldWorkBytes, foldClockEntries, runWorkBytes}
+use Rattle.memory.proofs.ListLaws.{allBelow-iff, count-pos, count-some}
+use Rattle.netlist.specs.Limits.{mostFileBytes, mostPhases, foldResultBytes, foldWorkBytes, foldClockEntries, runWorkBytes}
 use Rattle.netlist.specs.Rows.{Row, constant, input, register, andGate, xorGate, muxGate, output, RowFields, encodeRow, rowFromFields, rowAt, kindOf, labelOf, phaseOf, hasName, isInput, isUnknown, isOutput}
-use Rattle.netlist.specs.FileFormat.{lastMark, wordSum, rightSum, blockCount, fieldsAt}
+use Rattle.netlist.specs.FileFormat.{wordSum, rightSum, fieldsAt}
 use Rattle.netlist.proofs.RowLaws.{named-is, named-of}
 use Rattle.netlist.specs.WellFormed.{SameName, ResetIn, NamesNode, OnLiterals}
 use Rattle.lasso.specs.LassoSearch.{Lasso, findLasso}
+use Rattle.lasso.proofs.LassoLaws.{lasso-is, lasso-found}
 use Rattle.questions.specs.Questions.{lengthRight, sumRight, headRight, countRight, unusedRight, kindRight, fieldsRight, sameName, labelIsNew, namesNode, namesEarlier, literalsRight, phaseQuestion, foldMemoryRight, hasLasso, valueListsRight, allBinary, runMemoryRight}
+use Rattle.questions.specs.QuestionWords.{LengthWords, SumWords, MarkWords, HeadWords, rowsSaid, CountWords, UnusedWords, KindWords, FieldsWords, LabelWords, NamesEarlierNode, LiteralWords, OutputWords, ListsWords, BinaryWords, RoomWords}
+use Rattle.questions.specs.FoldRefusalWords.{MemoryRight, LassoWords}
 
 -- ---- 1 to 5: the length, and block B
-
--- What question 1 asks: 1 to the most blocks, and nothing more.
-pub record LengthWords (f : List ℕ) : Type 0 where
-  pub whole : length f ≡ 512 * blockCount f
-  pub some-blocks : 1 ≤ blockCount f
-  pub few-blocks : blockCount f ≤ mostBlocks
 
 pub lengthRight-iff : (f : List ℕ) → (lengthRight f ≡ true) ↔ LengthWords f
 lengthRight-iff f =
@@ -39,40 +36,33 @@ lengthRight-iff f =
     )
 
 module _ (k B : ℕ) (b : List ℕ) where
-  -- How many rows the block says that it has.
-  abbrev pub rowsSaid : ℕ
-  rowsSaid = byteAt b 2
-
-  -- What questions 2 to 5 ask of block B of k.
+  -- What questions 2 to 5 ask, together.
   pub record BlockWords : Type 0 where
-    pub sum : wordSum b 128 % 2 ^ 32 ≡ rightSum
-    pub mark : byteAt b 0 ≡ lastMark k B
+    pub sum : SumWords b
+    pub mark : MarkWords k B b
     pub number : byteAt b 1 ≡ B
     pub zero-byte : byteAt b 3 ≡ 0
-    pub count-last : suc B ≡ k → (1 ≤ rowsSaid) × (rowsSaid ≤ 63)
-    pub count-other : ¬ (suc B ≡ k) → rowsSaid ≡ 63
-    pub unused : (i : ℕ) → i < 504 - 8 * rowsSaid → byteAt b (4 + 8 * rowsSaid + i) ≡ 0
+    pub count-last : suc B ≡ k → (1 ≤ rowsSaid b) × (rowsSaid b ≤ 63)
+    pub count-other : ¬ (suc B ≡ k) → rowsSaid b ≡ 63
+    pub unused : UnusedWords b
 
-  pub sumRight-iff : (sumRight b ≡ true) ↔ (wordSum b 128 % 2 ^ 32 ≡ rightSum)
+  pub sumRight-iff : (sumRight b ≡ true) ↔ SumWords b
   sumRight-iff = eqb-iff (wordSum b 128 % 2 ^ 32) rightSum
 
-  pub headRight-iff : (headRight k B b ≡ true) ↔ (((byteAt b 0 ≡ lastMark k B) × (byteAt b 1 ≡ B)) × (byteAt b 3 ≡ 0))
-  headRight-iff = and-iff _ _ (and-iff _ _ (eqb-iff (byteAt b 0) (lastMark k B)) (eqb-iff (byteAt b 1) B)) (eqb-iff (byteAt b 3) 0)
+  pub headRight-iff : (headRight k B b ≡ true) ↔ HeadWords k B b
+  headRight-iff =
+      Iff·trans (and-iff _ _ (and-iff _ _ (eqb-iff (byteAt b 0) _) (eqb-iff (byteAt b 1) B)) (eqb-iff (byteAt b 3) 0))
+      (λ w. record { mark = w .0 .0; number = w .0 .1; zero-byte = w .1 }, λ w. ((w .mark, w .number), w .zero-byte))
 
-  pub countRight-iff : (countRight k B b ≡ true) ↔ ((suc B ≡ k → (1 ≤ rowsSaid) × (rowsSaid ≤ 63)) × (¬ (suc B ≡ k) → rowsSaid ≡ 63))
-  countRight-iff = cond-iff _ _ _ (eqb-iff (suc B) k) (and-iff _ _ (leb-iff 1 rowsSaid) (leb-iff rowsSaid 63)) (eqb-iff rowsSaid 63)
+  pub countRight-iff : (countRight k B b ≡ true) ↔ CountWords k B b
+  countRight-iff =
+      Iff·trans (cond-iff _ _ _ (eqb-iff (suc B) k) (and-iff _ _ (leb-iff 1 (rowsSaid b)) (leb-iff (rowsSaid b) 63)) (eqb-iff (rowsSaid b) 63))
+      (λ w. record { last = w .0; other = w .1 }, λ w. (w .last, w .other))
 
-  pub unusedRight-iff : (unusedRight b ≡ true) ↔ ((i : ℕ) → i < 504 - 8 * rowsSaid → byteAt b (4 + 8 * rowsSaid + i) ≡ 0)
-  unusedRight-iff = allBelow-iff (504 - 8 * rowsSaid) _ (λ i. eqb-iff (byteAt b (4 + 8 * rowsSaid + i)) 0)
+  pub unusedRight-iff : (unusedRight b ≡ true) ↔ UnusedWords b
+  unusedRight-iff = allBelow-iff (504 - 8 * rowsSaid b) _ (λ i. eqb-iff (byteAt b (4 + 8 * rowsSaid b + i)) 0)
 
 -- ---- 6: the kind
-
--- What question 6 asks of row i, of kind k.
-pub record KindWords (rows : List Row) (i k : ℕ) : Type 0 where
-  pub known : k ≤ 6
-  pub constant-only : k ≡ 0 → i ≡ 0
-  pub constant-first : i ≡ 0 → k ≡ 0
-  pub nodes-first : isOutput (rowAt rows i) ≡ false → (j : ℕ) → j < i → isOutput (rowAt rows j) ≡ false
 
 pub kindRight-iff : (ws : List RowFields) (rows : List Row) (i : ℕ) → (kindRight ws rows i ≡ true) ↔ KindWords rows i (fieldsAt ws i .kind)
 kindRight-iff ws rows i =
@@ -90,12 +80,6 @@ kindRight-iff ws rows i =
     k = fieldsAt ws i .kind
 
 -- ---- 7: the fields
-
--- What question 7 asks of fields of kind 0 to 6: what the kind does not name is zero, reset and phase are in range.
-pub record FieldsWords (k r a b c : ℕ) : Type 0 where
-  pub unnamed-zero : encodeRow (rowFromFields k r a b c) ≡ record { kind = k; reset = r; a = a; b = b; c = c }
-  pub reset-in : ResetIn (rowFromFields k r a b c)
-  pub phase-in : phaseOf (rowFromFields k r a b c) < mostPhases
 
 fields-words : (k r a b c : ℕ) → k ≤ 6 → fieldsRight k r a b c ≡ true → FieldsWords k r a b c
 fields-words zero r a b c h e =
@@ -150,7 +134,7 @@ sameName-iff r s = and-iff _ _ (λ e. e, λ e. e) (
   λ n. named-of (kindOf r) (labelOf r) (phaseOf r) s (sym (n .kind)) (sym (n .label)) (sym (n .phase)),
 )
 
-pub labelIsNew-iff : (rows : List Row) (i : ℕ) → (labelIsNew rows i ≡ true) ↔ ((j : ℕ) → j < i → ¬ ((hasName (rowAt rows i) ≡ true) × SameName (rowAt rows i) (rowAt rows j)))
+pub labelIsNew-iff : (rows : List Row) (i : ℕ) → (labelIsNew rows i ≡ true) ↔ LabelWords rows i
 labelIsNew-iff rows i = allBelow-iff i _ (λ j. none-iff (sameName (rowAt rows i) (rowAt rows j)) (sameName-iff (rowAt rows i) (rowAt rows j)))
 
 -- ---- 9: the literals
@@ -161,15 +145,28 @@ namesNode-iff rows l = and-iff _ _ (ltb-iff (l / 2) (length rows)) (not-iff (isO
 pub namesEarlier-iff : (rows : List Row) (i l : ℕ) → (namesEarlier rows i l ≡ true) ↔ (l / 2 < i)
 namesEarlier-iff rows i l = ltb-iff (l / 2) i
 
-module _ (operand : List Row → ℕ → ℕ → Bool) (rows : List Row) (i : ℕ) (P : ℕ → Type 0) (each : (l : ℕ) → (operand rows i l ≡ true) ↔ P l) where
-  pub literalsRight-iff : (r : Row) → (literalsRight operand rows i r ≡ true) ↔ OnLiterals P (NamesNode rows) r
-  literalsRight-iff constant = (λ _. tt, λ _. refl)
-  literalsRight-iff (input l p) = (λ _. tt, λ _. refl)
-  literalsRight-iff (register r n l) = namesNode-iff rows n
-  literalsRight-iff (andGate a b) = and-iff _ _ (each a) (each b)
-  literalsRight-iff (xorGate a b) = and-iff _ _ (each a) (each b)
-  literalsRight-iff (muxGate a b c) = and-iff _ _ (and-iff _ _ (each a) (each b)) (each c)
-  literalsRight-iff (output a l p) = namesNode-iff rows a
+-- Where a gate's operands are answered by P; of an output none is asked.
+module _ (operand : List Row → ℕ → ℕ → Bool) (rows : List Row) (i : ℕ) (P : ℕ → Type 0) where
+  pub literals-iff : (r : Row) → (isOutput r ≡ false → (l : ℕ) → (operand rows i l ≡ true) ↔ P l) → (literalsRight operand rows i r ≡ true) ↔ OnLiterals P (NamesNode rows) r
+  literals-iff constant each = (λ _. tt, λ _. refl)
+  literals-iff (input l p) each = (λ _. tt, λ _. refl)
+  literals-iff (register r n l) each = namesNode-iff rows n
+  literals-iff (andGate a b) each = and-iff _ _ (each refl a) (each refl b)
+  literals-iff (xorGate a b) each = and-iff _ _ (each refl a) (each refl b)
+  literals-iff (muxGate a b c) each = and-iff _ _ (and-iff _ _ (each refl a) (each refl b)) (each refl c)
+  literals-iff (output a l p) each = namesNode-iff rows a
+
+  pub literalsRight-iff : ((l : ℕ) → (operand rows i l ≡ true) ↔ P l) → (r : Row) → (literalsRight operand rows i r ≡ true) ↔ OnLiterals P (NamesNode rows) r
+  literalsRight-iff each r = literals-iff r (λ _. each)
+
+-- Question 6 has made every row before a gate a node.
+pub literalWords-iff : (rows : List Row) (i k : ℕ) → KindWords rows i k → (literalsRight namesEarlier rows i (rowAt rows i) ≡ true) ↔ LiteralWords rows i
+literalWords-iff rows i k w = literals-iff namesEarlier rows i (NamesEarlierNode rows i) (rowAt rows i) (λ node l. Iff·trans (namesEarlier-iff rows i l) (λ h. (h, w .nodes-first node (l / 2) h), λ n. n .0))
+
+-- ---- 10: an output
+
+pub someOutput-iff : (rows : List Row) → (ltb 0 (countIf isOutput rows) ≡ true) ↔ OutputWords rows
+someOutput-iff rows = Iff·trans (ltb-iff 0 (countIf isOutput rows)) (count-some isOutput constant rows, λ w. count-pos isOutput constant rows (w .0) (w .1) (w .2))
 
 -- ---- 13, 15 and 16: Fold
 
@@ -179,12 +176,6 @@ phaseQuestion-iff rows i = Iff·trans (zero-iff (eqb (phaseOf (rowAt rows i)) 0)
     zero-iff : (t : Bool) → (_≡_ {A = ℕ} (cond t 0 13) 0) ↔ (t ≡ true)
     zero-iff true = (λ _. refl, λ _. refl)
     zero-iff false = (λ e. absurd (omega arith), λ e. absurd (false≢true e))
-
--- What Fold is lent is long enough.
-pub record MemoryRight (result work clocks : ℕ) : Type 0 where
-  pub result-long : foldResultBytes ≤ result
-  pub work-long : foldWorkBytes ≤ work
-  pub clocks-long : foldClockEntries ≤ clocks
 
 pub foldMemoryRight-iff : (result work clocks : ℕ) → (foldMemoryRight result work clocks ≡ true) ↔ MemoryRight result work clocks
 foldMemoryRight-iff result work clocks =
@@ -198,13 +189,20 @@ hasLasso-iff rows = found (findLasso rows)
     found none = (λ e. absurd (false≢true e), λ z. absurd (let q : _≡_ {A = ℕ} 0 1 = cc (z .1) in omega arith))
     found (some z) = (λ _. (z, refl), λ _. refl)
 
+pub lassoWords-iff : (rows : List Row) → (hasLasso rows ≡ true) ↔ LassoWords rows
+lassoWords-iff rows =
+    Iff·trans (hasLasso-iff rows) (
+      λ z. (let is = lasso-is rows (z .0) (z .1) in (z .0 .stem, z .0 .stem + z .0 .cycle, is .repeat, is .within)),
+      λ w. lasso-found rows (w .0) (w .1) (w .2) (w .3),
+    )
+
 -- ---- 18 to 20: Run
 
-pub valueListsRight-iff : (rows : List Row) (T : ℕ) (choices inputs : List ℕ) → (valueListsRight rows T choices inputs ≡ true) ↔ ((length choices ≡ countIf isUnknown rows) × (length inputs ≡ T * countIf isInput rows))
+pub valueListsRight-iff : (rows : List Row) (T : ℕ) (choices inputs : List ℕ) → (valueListsRight rows T choices inputs ≡ true) ↔ ListsWords rows T choices inputs
 valueListsRight-iff rows T choices inputs = and-iff _ _ (eqb-iff (length choices) (countIf isUnknown rows)) (eqb-iff (length inputs) (T * countIf isInput rows))
 
-pub allBinary-iff : (vs : List ℕ) → (allBinary vs ≡ true) ↔ ((i : ℕ) → i < length vs → byteAt vs i ≤ 1)
+pub allBinary-iff : (vs : List ℕ) → (allBinary vs ≡ true) ↔ BinaryWords vs
 allBinary-iff vs = allBelow-iff (length vs) _ (λ i. leb-iff (byteAt vs i) 1)
 
-pub runMemoryRight-iff : (rows : List Row) (T result work : ℕ) → (runMemoryRight rows T result work ≡ true) ↔ ((T * countIf isOutput rows ≤ result) × (runWorkBytes ≤ work))
+pub runMemoryRight-iff : (rows : List Row) (T result work : ℕ) → (runMemoryRight rows T result work ≡ true) ↔ RoomWords rows T result work
 runMemoryRight-iff rows T result work = and-iff _ _ (leb-iff (T * countIf isOutput rows) result) (leb-iff runWorkBytes work)

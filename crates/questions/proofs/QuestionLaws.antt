@@ -8,6 +8,7 @@ use native.Mathlib.Omega.{arith}
 use lib.Dec.{ltb}
 use borrow.Author.Tests.{ltb-true, ltb-false, le-ltb}
 use Rattle.memory.specs.Lists.{firstFrom}
+use Rattle.memory.proofs.TestLaws.{cond-case}
 use Rattle.memory.proofs.ListLaws.{first-is, first-none}
 use Rattle.questions.specs.Questions.{Refusal, noRefusal, firstRefusal, question, itemQuestions}
 
@@ -83,23 +84,22 @@ module _ (n : ℕ) (f : ℕ → ℕ) where
   found = firstFrom 0 n (λ i. ltb 0 (f i))
 
   pub items-none : itemQuestions n f .number ≡ 0 → (j : ℕ) → j < n → f j ≡ 0
-  items-none h j b = go (ltb found n) refl h
-    where
-      go : (t : Bool) → ltb found n ≡ t → (cond t (record { number = f found; place = found }) noRefusal) .number ≡ 0 → f j ≡ 0
-      go true e k =
-          let l = ltb-true found n e in
-          let p = ltb-true 0 (f found) (first-is 0 n (λ i. ltb 0 (f i)) .holds (omega arith)) in
-          absurd (omega (arith, p, k))
-      go false e k =
-          let l = ltb-false found n e in
-          let p = ltb-false 0 (f j) (first-is 0 n (λ i. ltb 0 (f i)) .before j (omega arith) (omega (arith, l))) in
-          omega (arith, p)
+  items-none h j b =
+      cond-case (λ (q : Refusal). q .number ≡ 0 → f j ≡ 0) (ltb found n) _ noRefusal
+      (λ e k.
+      let l = ltb-true found n e in
+      let p = ltb-true 0 (f found) (first-is 0 n (λ i. ltb 0 (f i)) .holds (omega arith)) in
+      absurd (omega arith))
+      (λ e k.
+      let l = ltb-false found n e in
+      let p = ltb-false 0 (f j) (first-is 0 n (λ i. ltb 0 (f i)) .before j (omega arith) (omega arith)) in
+      omega arith)
+      h
 
   pub items-yes : ((j : ℕ) → j < n → f j ≡ 0) → itemQuestions n f ≡ noRefusal
   items-yes h =
       let e = first-none 0 n (λ i. ltb 0 (f i)) (λ j _ b. le-ltb 0 (f j) (omega (arith, h j (omega arith)))) in
-      let t : ltb found n ≡ false = le-ltb found n (omega (arith, e)) in
-      ap (λ (b : Bool). cond b (record { number = f found; place = found }) noRefusal) t
+      cond-case (λ (q : Refusal). q ≡ noRefusal) (ltb found n) _ noRefusal (λ t. absurd (omega (arith, ltb-true found n t))) (λ _. refl)
 
 -- ---- a chain of tests that ends in 0: each was passed
 

@@ -1,2 +1,5 @@
--- The questions, and the refusal of each operation.
+-- The questions, the refusal of each operation, and what they mean in plain words.
 pub mod Questions
+pub mod QuestionWords
+pub mod RefusalWords
+pub mod FoldRefusalWords
