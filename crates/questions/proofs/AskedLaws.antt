@@ -1,7 +1,7 @@
 -- What is asked and what a refusal means, in general: lists of what is asked, a question asked once, questions asked of one item and of items in turn, a list of questions.
 -- Assumes nothing.
 use Prim.Native.Nat.{ℕ, zero, suc, _<_}
-use mathlib.Core.Path.{_≡_, refl, sym, _∙_, subst}
+use mathlib.Core.Path.{_≡_, refl, sym, ap₂, _∙_, subst}
 use mathlib.Core.Logic.{_↔_, inl, inr}
 use mathlib.Core.Bool.{Bool, true, false, cond, not, false≢true}
 use mathlib.Core.List.{List, [], _∷_, _++_, append-nil}
@@ -53,13 +53,21 @@ not-yes [] n p h a = h
 not-yes (x ∷ xs) n p (inl h) a = h .2 (a .0)
 not-yes (x ∷ xs) n p (inr h) a = not-yes xs n p (h .1) (a .1)
 
--- Where the first no is to question n at place p, the refusal is that: a refusal has one meaning.
-pub first-no-is : (q : Refusal) (asked : List Asked) → RefusalMeans q asked → (n p : ℕ) → FirstNo asked n p → (q .number ≡ n) × (q .place ≡ p)
-first-no-is q asked M n p h = go (q .number) refl
-  where
-    go : (m : ℕ) → q .number ≡ m → (q .number ≡ n) × (q .place ≡ p)
-    go zero e = absurd (not-yes asked n p h (M .passed e))
-    go (suc m) e = no-unique asked (q .number) (q .place) n p (M .refused (omega arith)) h
+-- The other way round: where the first no is to question n at place p, the refusal is that; where every answer is yes, there is none.
+module _ (q : Refusal) (asked : List Asked) (M : RefusalMeans q asked) where
+  pub first-no-is : (n p : ℕ) → FirstNo asked n p → (q .number ≡ n) × (q .place ≡ p)
+  first-no-is n p h = go (q .number) refl
+    where
+      go : (m : ℕ) → q .number ≡ m → (q .number ≡ n) × (q .place ≡ p)
+      go zero e = absurd (not-yes asked n p h (M .passed e))
+      go (suc m) e = no-unique asked (q .number) (q .place) n p (M .refused (omega arith)) h
+
+  pub all-yes-is : AllYes asked → q ≡ noRefusal
+  all-yes-is y = go (q .number) refl
+    where
+      go : (m : ℕ) → q .number ≡ m → q ≡ noRefusal
+      go zero e = ap₂ (λ (n p : ℕ). record { number = n; place = p }) e (M .no-place e)
+      go (suc m) e = absurd (not-yes asked (q .number) (q .place) (M .refused (omega arith)) y)
 
 -- ---- a question asked once
 

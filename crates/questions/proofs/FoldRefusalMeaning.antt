@@ -31,7 +31,7 @@ unfolding originalRefusal askedOfOriginal
 original-means rows =
     then-means (once-means 10 (leb-iff (length rows) mostOriginalRows))
     (then-means (once-means 11 (leb-iff (countIf isRegister rows) mostOriginalRegisters))
-    (last-means (items-means (length rows) (phaseQuestion rows) _ (phase-means rows))))
+    (last-means (items-means (length rows) _ _ (phase-means rows))))
 
 pub fold-refusal-means : (file : List ℕ) (wish result work clocks : ℕ) → RefusalMeans (foldRefusal file wish result work clocks) (askedByFold file wish result work clocks)
 unfolding foldRefusal askedByFold

@@ -145,7 +145,7 @@ namesNode-iff rows l = and-iff _ _ (ltb-iff (l / 2) (length rows)) (not-iff (isO
 pub namesEarlier-iff : (rows : List Row) (i l : ℕ) → (namesEarlier rows i l ≡ true) ↔ (l / 2 < i)
 namesEarlier-iff rows i l = ltb-iff (l / 2) i
 
--- Where a gate's operands are answered by P; of an output none is asked.
+-- P is what the test of an operand means, in a row that is no output.
 module _ (operand : List Row → ℕ → ℕ → Bool) (rows : List Row) (i : ℕ) (P : ℕ → Type 0) where
   pub literals-iff : (r : Row) → (isOutput r ≡ false → (l : ℕ) → (operand rows i l ≡ true) ↔ P l) → (literalsRight operand rows i r ≡ true) ↔ OnLiterals P (NamesNode rows) r
   literals-iff constant each = (λ _. tt, λ _. refl)

@@ -7,8 +7,8 @@ use Rattle.memory.proofs.TestLaws.{leb-iff, ltb-iff, and-iff}
 use Rattle.netlist.specs.Limits.{mostSteps}
 use Rattle.netlist.specs.Rows.{RowFields, decodeRow}
 use Rattle.netlist.specs.FileFormat.{blockCount, blockAt, fieldsOf, netlistOf}
-use Rattle.questions.specs.Questions.{blockQuestions, namesEarlier, rowQuestions, rowsRefusal, fileRefusalWith, fileRefusal, runRefusal, showRefusal}
-use Rattle.questions.specs.RefusalWords.{RefusalMeans, askedOfBlock, askedOfRow, askedOfRows, askedOfFile, askedByRun, askedByShow}
+use Rattle.questions.specs.Questions.{itemQuestions, blockQuestions, namesEarlier, rowQuestions, rowsRefusal, fileRefusalWith, fileRefusal, runRefusal, showRefusal}
+use Rattle.questions.specs.RefusalWords.{RefusalMeans, askedOfBlock, askedOfBlocks, askedOfRow, askedOfRows, askedOfFile, askedByRun, askedByShow}
 use Rattle.questions.proofs.PlainWords.{lengthRight-iff, sumRight-iff, headRight-iff, countRight-iff, unusedRight-iff, kindRight-iff, fieldsRight-iff, labelIsNew-iff, literalWords-iff, someOutput-iff, valueListsRight-iff, allBinary-iff, runMemoryRight-iff}
 use Rattle.questions.proofs.AskedLaws.{ItemMeans, once-means, none-means, test-means, items-means, then-means, last-means}
 
@@ -19,6 +19,10 @@ block-means k B b =
     test-means 2 B (headRight-iff k B b) (λ _.
     test-means 3 B (countRight-iff k B b) (λ _.
     test-means 4 B (unusedRight-iff k B b) (λ _. none-means B))))
+
+blocks-means : (f : List ℕ) → RefusalMeans (itemQuestions (blockCount f) (λ B. blockQuestions (blockCount f) B (blockAt f B))) (askedOfBlocks f)
+unfolding askedOfBlocks
+blocks-means f = items-means (blockCount f) _ _ (λ B. block-means (blockCount f) B (blockAt f B))
 
 row-means : (ws : List RowFields) (i : ℕ) → ItemMeans (rowQuestions namesEarlier ws i) i (askedOfRow ws i)
 unfolding rowQuestions
@@ -31,14 +35,14 @@ row-means ws i =
 rows-means : (ws : List RowFields) → RefusalMeans (rowsRefusal namesEarlier ws) (askedOfRows ws)
 unfolding rowsRefusal askedOfRows
 rows-means ws =
-    then-means (items-means (length ws) (rowQuestions namesEarlier ws) (askedOfRow ws) (row-means ws))
+    then-means (items-means (length ws) _ _ (row-means ws))
     (last-means (once-means 9 (someOutput-iff (map decodeRow ws))))
 
 pub file-refusal-means : (f : List ℕ) → RefusalMeans (fileRefusal f) (askedOfFile f)
 unfolding fileRefusalWith askedOfFile
 file-refusal-means f =
     then-means (once-means 0 (lengthRight-iff f))
-    (then-means (items-means (blockCount f) (λ B. blockQuestions (blockCount f) B (blockAt f B)) (λ B. askedOfBlock (blockCount f) B (blockAt f B)) (λ B. block-means (blockCount f) B (blockAt f B)))
+    (then-means (blocks-means f)
     (last-means (rows-means (fieldsOf f))))
 
 pub run-refusal-means : (file : List ℕ) (T : ℕ) (choices inputs : List ℕ) (result work : ℕ) → RefusalMeans (runRefusal file T choices inputs result work) (askedByRun file T choices inputs result work)

@@ -51,6 +51,10 @@ PrefixesRefused file = fileRefusal file ≡ noRefusal → (n : ℕ) → n < leng
 abbrev pub askedOfBlock : ℕ → ℕ → List ℕ → List Asked
 askedOfBlock k B b = ask 2 B (SumWords b) ∷ ask 3 B (HeadWords k B b) ∷ ask 4 B (CountWords k B b) ∷ ask 5 B (UnusedWords b) ∷ []
 
+-- Of each block in turn.
+unfoldable pub askedOfBlocks : List ℕ → List Asked
+askedOfBlocks f = joinBelow (blockCount f) (λ B. askedOfBlock (blockCount f) B (blockAt f B))
+
 -- Of row i, ws the fields of all rows.
 abbrev pub askedOfRow : List RowFields → ℕ → List Asked
 askedOfRow ws i =
@@ -66,9 +70,9 @@ askedOfRow ws i =
 unfoldable pub askedOfRows : List RowFields → List Asked
 askedOfRows ws = joinBelow (length ws) (askedOfRow ws) ++ (ask 10 0 (OutputWords (map decodeRow ws)) ∷ [])
 
--- 1 to 10, which every operation asks first: the length, each block in turn, the rows.
+-- 1 to 10, which every operation asks first: of the length, the blocks and the rows.
 unfoldable pub askedOfFile : List ℕ → List Asked
-askedOfFile f = ask 1 0 (LengthWords f) ∷ joinBelow (blockCount f) (λ B. askedOfBlock (blockCount f) B (blockAt f B)) ++ askedOfRows (fieldsOf f)
+askedOfFile f = ask 1 0 (LengthWords f) ∷ askedOfBlocks f ++ askedOfRows (fieldsOf f)
 
 -- Run goes on with 17 to 20.
 unfoldable pub askedByRun : List ℕ → ℕ → List ℕ → List ℕ → ℕ → ℕ → List Asked
