@@ -1,0 +1,2 @@
+-- Steps of the walk by hand.
+pub mod ArraySteps

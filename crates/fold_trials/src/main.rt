@@ -1,0 +1,57 @@
+// The public Fold tried. Result, work and clock list are filled before; the answer and what is left of the three are held against the
+// reference, a folder written separately, and against the fillers.
+mod designs;
+mod folds;
+mod listed;
+
+use folds::try_fold;
+use reference::Lent;
+use text::bytes::first;
+
+fn lent(result: usize, work: usize, clocks: usize) -> Lent {
+    Lent {
+        result: result,
+        work: work,
+        clocks: clocks,
+    }
+}
+
+// Every wish, and 9, with memories of several lengths.
+fn try_wishes(file: &[u8], tally: &mut [usize]) {
+    let end: usize = 10;
+    'wishes: for wish in 0..end {
+        let memories = lent(65536 + 7 * wish, 49152 + 5 * wish, 256 + wish % 5);
+        try_fold(file, wish as u32, memories, tally);
+    }
+}
+
+// Each memory too short by one.
+fn try_short(file: &[u8], tally: &mut [usize]) {
+    try_fold(file, 0, lent(65535, 49152, 256), tally);
+    try_fold(file, 0, lent(65536, 49151, 256), tally);
+    try_fold(file, 0, lent(65536, 49152, 255), tally);
+}
+
+// At last with a byte of the last check changed.
+fn try_design(design: usize, tally: &mut [usize]) {
+    let mut room = [0u8; 2560];
+    let file: &mut [u8] = &mut room;
+    let size = designs::put_design(file, design);
+    try_wishes(first(file, size), tally);
+    try_short(first(file, size), tally);
+    text::bytes::put(file, std::num::wrapping_sub_usize(size, 3), 77);
+    try_fold(first(file, size), 0, lent(65536, 49152, 256), tally);
+}
+
+fn try_designs(tally: &mut [usize]) {
+    let end: usize = designs::DESIGNS;
+    'designs: for design in 0..end {
+        try_design(design, tally);
+    }
+}
+
+fn main() {
+    let mut counts = [0usize; folds::COUNTS];
+    try_designs(&mut counts);
+    folds::print(counts);
+}
