@@ -9,7 +9,7 @@ use lib.ListN.{set, List·getD-map}
 use lib.Seq.{sets}
 use Rattle.memory.specs.Fields.{byteAt}
 use Rattle.netlist.specs.Simulation.{boolLogic, boolXor, complementIf, literalValue, valueAt}
-use Rattle.simulate.specs.Values.{IsBinary, bit, bitAt, bitFrom, bitByte, bitBytes}
+use Rattle.simulate.specs.Values.{IsBinary, bit, bitAt, bitFrom, bitByte, bitBytes, noValue}
 
 -- ---- values and bytes
 
@@ -25,6 +25,9 @@ bit-byte false = refl
 pub byte-most : (b : Bool) → bitByte b ≤ 1
 byte-most true = omega arith
 byte-most false = omega arith
+
+pub no-value : (b : Bool) → bitByte b ≡ noValue → ⊥
+no-value b e = omega (arith, byte-most b)
 
 -- The byte of value i, and its value; past the end 0.
 pub bytes-at : (bs : List Bool) (i : ℕ) → byteAt (bitBytes bs) i ≡ bitByte (valueAt boolLogic bs i)

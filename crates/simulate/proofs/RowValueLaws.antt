@@ -11,10 +11,11 @@ use Rattle.memory.specs.Fields.{byteAt, u16At}
 use Rattle.netlist.specs.Rows.{Row, rowFromFields, rowAt, isInput, isUnknown}
 use Rattle.netlist.specs.FileFormat.{rowOffset, netlistOf}
 use Rattle.netlist.specs.Simulation.{boolLogic, boolXor, literalValue, rowValue, resetValue}
-use Rattle.netlist.proofs.RowLaws.{other-kind}
 use Rattle.netlist.specs.WellFormed.{OperandsBelow, NextBelow}
+use Rattle.blockfile.specs.RowCode.{ifKnown}
+use Rattle.blockfile.proofs.RowCodeLaws.{kind-unknown}
 use Rattle.blockfile.proofs.CountLaws.{SortsBy, sorts-by}
-use Rattle.simulate.specs.Values.{IsBinary, bit, bitAt, bitFrom, bitByte, heldIn}
+use Rattle.simulate.specs.Values.{IsBinary, bit, bitAt, bitFrom, bitByte, noValue, heldIn}
 use Rattle.simulate.specs.Steps.{RowReady}
 use Rattle.simulate.proofs.BitLaws.{byte-bit, bit-byte}
 
@@ -85,7 +86,7 @@ module _ (f : List ℕ) (i : ℕ) (R : RowReady f i) (p : ℕ) (ep : p ≡ rowOf
 
   module _ (h : Bool) (u : ℕ → ℕ → Bool) (w : ℕ → Bool) where
     abbrev Value : ℕ → Type 0
-    Value x = x ≡ bitByte (rowValue boolLogic h u w row)
+    Value x = x ≡ ifKnown k (bitByte (rowValue boolLogic h u w row)) noValue
 
     -- The byte x is the value of literal l.
     abbrev Reads : ℕ → ℕ → Type 0
@@ -109,13 +110,13 @@ module _ (f : List ℕ) (i : ℕ) (R : RowReady f i) (p : ℕ) (ep : p ≡ rowOf
     pub value-output : (x : ℕ) → k ≡ 6 → Reads a x → Value x
     value-output x e ex = rw (row-read, e) ex
 
-    pub value-other : (k ≡ 0 → ⊥) → (k ≡ 1 → ⊥) → (k ≡ 2 → ⊥) → (k ≡ 3 → ⊥) → (k ≡ 4 → ⊥) → (k ≡ 5 → ⊥) → (k ≡ 6 → ⊥) → Value 0
-    value-other n0 n1 n2 n3 n4 n5 n6 = rw (row-read, other-kind k s a b c n0 n1 n2 n3 n4 n5 n6)
+    pub value-unknown : (k ≡ 0 → ⊥) → (k ≡ 1 → ⊥) → (k ≡ 2 → ⊥) → (k ≡ 3 → ⊥) → (k ≡ 4 → ⊥) → (k ≡ 5 → ⊥) → (k ≡ 6 → ⊥) → Value noValue
+    value-unknown = kind-unknown k (bitByte (rowValue boolLogic h u w row)) noValue
 
-  pub value-input : (h : Bool) (w : ℕ → Bool) (inputs : List ℕ) (j : ℕ) → k ≡ 1 → IsBinary inputs → byteAt inputs j ≡ bitByte (rowValue boolLogic h (λ l p. bitAt inputs j) w row)
+  pub value-input : (h : Bool) (w : ℕ → Bool) (inputs : List ℕ) (j : ℕ) → k ≡ 1 → IsBinary inputs → byteAt inputs j ≡ ifKnown k (bitByte (rowValue boolLogic h (λ l p. bitAt inputs j) w row)) noValue
   value-input h w inputs j e bin = rw (row-read, e) (sym (byte-bit (byteAt inputs j) (bin j)))
 
-  pub value-register : (h : Bool) (u : ℕ → ℕ → Bool) (w : ℕ → Bool) (x : ℕ) → k ≡ 2 → x ≡ bitByte h → x ≡ bitByte (rowValue boolLogic h u w row)
+  pub value-register : (h : Bool) (u : ℕ → ℕ → Bool) (w : ℕ → Bool) (x : ℕ) → k ≡ 2 → x ≡ bitByte h → x ≡ ifKnown k (bitByte (rowValue boolLogic h u w row)) noValue
   value-register h u w x e ex = rw (row-read, e) ex
 
 -- ---- what the row holds, and starts as: its bytes read at place p

@@ -15,8 +15,10 @@ use Rattle.netlist.specs.FileFormat.{rowOffset, netlistOf}
 use Rattle.netlist.specs.Simulation.{boolLogic, rowValue}
 use Rattle.netlist.specs.RunLayout.{placeAmong}
 use Rattle.netlist.specs.WellFormed.{NextBelow}
+use Rattle.blockfile.specs.RowCode.{ifKnown}
+use Rattle.blockfile.proofs.RowCodeLaws.{kind-known}
 use Rattle.blockfile.proofs.CountLaws.{count-some-le}
-use Rattle.simulate.specs.Values.{IsBinary, bitAt, bitFrom, bitByte, bitBytes, heldIn, stateFrom, valuesBefore, valuesFrom}
+use Rattle.simulate.specs.Values.{IsBinary, bitAt, bitFrom, bitByte, bitBytes, noValue, heldIn, stateFrom, valuesBefore, valuesFrom}
 use Rattle.simulate.specs.Steps.{RowReady, NetlistReady, TwoHalves, BlockRows, ValuesStand}
 use Rattle.simulate.proofs.BitLaws.{byte-most, binary-bytes}
 use Rattle.simulate.proofs.PassLaws.{row-ready, next-below, input-there, input-next, input-fits, halves-set, halves-written, evaluate-none, evaluate-more, evaluate-all}
@@ -69,6 +71,10 @@ module _ {f inputs : List ℕ} {base current previous : ℕ} {initial : Bool} {s
             ),
           )
 
+      -- Its kind is one that there is.
+      walk-known : byteAt f place ≤ 6
+      walk-known = subst (λ (p : ℕ). byteAt f p ≤ 6) (sym walk-place) (B .netlist .ready .known row in-netlist)
+
       pub walk-target : current + row < length w
       walk-target = omega (arith, in-netlist, U .halves .current-fits)
 
@@ -77,16 +83,18 @@ module _ {f inputs : List ℕ} {base current previous : ℕ} {initial : Bool} {s
         pub walk-used : base + (used + o) ≤ length inputs
         walk-used = input-fits f (length (netlistOf f)) (B .netlist) base row place in-netlist walk-place inputs used (U .used-is) fit o eo
 
-        pub walk-more : {x : ℕ} → x ≡ bitByte (rowValue boolLogic (heldIn w previous initial row (rowAt (netlistOf f) row)) (λ l p. bitAt inputs (base + used)) (bitFrom w current) (rowAt (netlistOf f) row))
+        pub walk-more : {x : ℕ} → x ≡ ifKnown (byteAt f place) (bitByte (rowValue boolLogic (heldIn w previous initial row (rowAt (netlistOf f) row)) (λ l p. bitAt inputs (base + used)) (bitFrom w current) (rowAt (netlistOf f) row))) noValue
             → Walked f inputs base current previous initial start first w₀ (set w (current + row) x) (row + 1) (place + 8) (used + o)
-        walk-more {x} ex =
+        walk-more {x} answer =
             let n = length (netlistOf f) in
+            let y = rowValue boolLogic (heldIn w previous initial row (rowAt (netlistOf f) row)) (λ l p. bitAt inputs (base + used)) (bitFrom w current) (rowAt (netlistOf f) row) in
+            let ex : x ≡ bitByte y = answer ∙ kind-known (byteAt f place) (bitByte y) noValue walk-known in
             record {
               from = omega (arith, U .from);
               place-is = omega (arith, U .from, U .place-is);
               used-is = input-next f n (B .netlist) base row place in-netlist walk-place inputs used (U .used-is) fit o eo;
               room = length-set w (current + row) x ∙ U .room;
-              halves = halves-set n current previous w (current + row) x (U .halves) (subst (λ (y : ℕ). y ≤ 1) (sym ex) (byte-most (rowValue boolLogic (heldIn w previous initial row (rowAt (netlistOf f) row)) (λ l p. bitAt inputs (base + used)) (bitFrom w current) (rowAt (netlistOf f) row))));
+              halves = halves-set n current previous w (current + row) x (U .halves) (subst (λ (y : ℕ). y ≤ 1) (sym ex) (byte-most y));
               values = λ v h. evaluate-more f n (B .netlist) inputs base current previous initial v row w (U .halves) (U .values v h) in-netlist used x (U .used-is) ex;
             }
 

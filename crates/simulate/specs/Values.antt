@@ -1,5 +1,5 @@
 -- Values in lent memory, a byte 0 or 1 each: a state, the inputs of a step, the choices.
--- Interface: IsBinary, bit, bitAt, bitFrom, bitByte, bitBytes, heldIn, stateFrom, stepInputs, resetChoices, valuesBefore, valuesFrom, shownBytes.
+-- Interface: IsBinary, bit, bitAt, bitFrom, bitByte, bitBytes, noValue, heldIn, stateFrom, stepInputs, resetChoices, valuesBefore, valuesFrom, shownBytes.
 -- Assumes nothing.
 use Prim.Native.Nat.{ℕ, _+_, _≤_}
 use mathlib.Core.Bool.{Bool, cond, not}
@@ -32,6 +32,10 @@ bitByte b = cond b 1 0
 
 abbrev pub bitBytes : List Bool → List ℕ
 bitBytes bs = map bitByte bs
+
+-- A byte that is no value.
+abbrev pub noValue : ℕ
+noValue = 2
 
 -- What row i, which is r, holds as a register: in the initial step its byte from `previous` on, then what its literal showed in the last step, whose values stand there.
 abbrev pub heldIn : List ℕ → ℕ → Bool → ℕ → Row → Bool

@@ -14,12 +14,16 @@ ghost use Rattle.netlist.specs.FileFormat.{rowOffset, netlistOf};
 ghost use Rattle.netlist.specs.Simulation.{boolLogic, boolXor, literalValue, rowValue, resetValue};
 ghost use Rattle.netlist.specs.RunLayout.{placeAmong, runBytes};
 ghost use Rattle.netlist.specs.WellFormed.{NextBelow};
-ghost use Rattle.simulate.specs.Values.{IsBinary, bit, bitAt, bitFrom, bitByte, bitBytes, heldIn, stateFrom, resetChoices, valuesFrom};
+ghost use Rattle.blockfile.specs.RowCode.{ifKnown};
+ghost use Rattle.simulate.specs.Values.{IsBinary, bit, bitAt, bitFrom, bitByte, bitBytes, noValue, heldIn, stateFrom, resetChoices, valuesFrom};
 ghost use Rattle.simulate.specs.Steps.{RowReady, NetlistReady, WorkReady, TwoHalves, BlockRows, ValuesStand, Given, Stepped};
 use blockfile::BLOCK_BYTES;
 use blockfile::BLOCK_ROWS;
 use blockfile::FIRST_ROW;
 use blockfile::ROW_BYTES;
+
+// A byte that is no value: the answer for a row of an unknown kind, which no accepted file has.
+const NO_VALUE: u8 = 2;
 
 // The value of the literal among those from byte `from` on: its node's, changed if the literal is odd.
 fn literal_value(work: &[u8], from: usize, literal: usize) -> u8
@@ -85,7 +89,7 @@ fn held_value(
     }
 }
 
-// The value of a row of this kind that stands at `place`; if it is an input, its byte stands at `input`.
+// The value of a row of this kind that stands at `place`, no value if the kind is unknown; if it is an input, its byte stands at `input`.
 fn row_value(
     file: &[u8],
     row: usize,
@@ -101,7 +105,7 @@ fn row_value(
     requires { ⌜ RowReady (now file) row × ((place ≡ rowOffset row) × (kind ≡ byteAt (now file) place)) ⌝ }
     requires { ⌜ (kind ≡ 1 → input < length (now inputs)) × IsBinary (now inputs) ⌝ }
     requires { ⌜ (current + row < length (now work)) × ((previous + row < length (now work)) × (NextBelow (length (now work) - previous) (rowAt (netlistOf (now file)) row) × IsBinary (now work))) ⌝ }
-    ensures { λ r. ⌜ r ≡ bitByte (rowValue boolLogic (heldIn (now (work .entry)) previous initial row (rowAt (netlistOf (now (file .entry))) row)) (λ l p. bitAt (now (inputs .entry)) input) (bitFrom (now (work .entry)) current) (rowAt (netlistOf (now (file .entry))) row)) ⌝ }
+    ensures { λ r. ⌜ r ≡ ifKnown kind (bitByte (rowValue boolLogic (heldIn (now (work .entry)) previous initial row (rowAt (netlistOf (now (file .entry))) row)) (λ l p. bitAt (now (inputs .entry)) input) (bitFrom (now (work .entry)) current) (rowAt (netlistOf (now (file .entry))) row))) noValue ⌝ }
 {
     let at_a = place + 2;
     let at_b = place + 4;
@@ -127,7 +131,7 @@ fn row_value(
             mux_of(selector, x, y)
         }
         6 => field_value(file, at_a, work, current),
-        _ => 0,
+        7..=255 => NO_VALUE,
     }
 }
 

@@ -1,6 +1,6 @@
--- `row_value` meets its contract, by kinds: what each arm reads is in range, and its value is the row's.
+-- `row_value` meets its contract, by kinds: what each arm reads is in range, and its value is the row's; a kind above 6 gets no value.
 -- Assumes nothing.
-use Rattle.simulate.proofs.RowValueLaws.{and-names-a, and-names-b, xor-names-a, xor-names-b, mux-names-a, mux-names-b, mux-names-c, output-names, value-constant, value-input, value-register, value-and, value-xor, value-mux, value-output, value-other}
+use Rattle.simulate.proofs.RowValueLaws.{and-names-a, and-names-b, xor-names-a, xor-names-b, mux-names-a, mux-names-b, mux-names-c, output-names, value-constant, value-input, value-register, value-and, value-xor, value-mux, value-output, value-unknown}
 use borrow.Author.Needs.{needs}
 use Rattle.simulate.proofs.row_value.Statement.{statement}
 use Rattle.simulate.proofs.row_value.Tie as tie
@@ -75,7 +75,7 @@ returns-7 : tie.Need-returns-7
 returns-7 c = search value-output
 
 returns-8 : tie.Need-returns-8
-returns-8 c = search value-other
+returns-8 c = search value-unknown
 
 pub row-value-spec : {M : Type 1} → statement M
 row-value-spec =
