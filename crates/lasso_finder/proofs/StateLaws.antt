@@ -6,14 +6,16 @@ use mathlib.Core.List.{List}
 use native.Mathlib.Omega.{arith}
 use lib.ListN.{length}
 use Rattle.memory.specs.Fields.{byteAt}
-use Rattle.ternary.specs.Ternary.{Ternary, X, not3, and3, xor3, mux3, codeOf, valueOf}
+use Rattle.ternary.specs.Ternary.{Ternary, not3, and3, xor3, mux3, codeOf, valueOf}
 use Rattle.ternary.proofs.RuleLaws.{value-of-code, code-below}
 use Rattle.netlist.specs.Limits.{mostOriginalRows, mostOriginalRegisters, foldWorkBytes, lastState}
 use Rattle.netlist.specs.Rows.{rowFromFields, isRegister}
-use Rattle.netlist.specs.Simulation.{ternaryLogic, complementIf, rowValue}
+use Rattle.netlist.specs.Simulation.{ternaryLogic, complementIf}
 use Rattle.netlist.specs.WellFormed.{OperandsBelow}
+use Rattle.blockfile.specs.RowCode.{ifKnown}
+use Rattle.blockfile.proofs.RowCodeLaws.{kind-unknown}
 use Rattle.blockfile.specs.declared.Fields.{Fields}
-use Rattle.lasso_finder.specs.StateMap.{statePlace, valuePlace, codeAt, valueIn, Coded, literalIn, RowReady, rowIn}
+use Rattle.lasso_finder.specs.StateMap.{statePlace, valuePlace, codeAt, valueIn, Coded, literalIn, RowReady, rowIn, noCode}
 
 -- ---- codes
 
@@ -22,6 +24,9 @@ code-of-value zero h = refl
 code-of-value (suc zero) h = refl
 code-of-value (suc (suc zero)) h = refl
 code-of-value (suc (suc (suc x))) h = absurd (omega arith)
+
+pub no-code : (v : Ternary) → codeOf v ≡ noCode → ⊥
+no-code v e = omega (arith, code-below v)
 
 -- r is the code of v, and so below 3.
 abbrev pub IsCode : ℕ → Ternary → Type 0
@@ -75,32 +80,25 @@ module _ (w : List ℕ) (r : Fields) (base j : ℕ) (R : RowReady w r base j) wh
   pub register-asks : r .kind ≡ 2 → (base ≤ statePlace lastState) × ((j < mostOriginalRegisters) × (foldWorkBytes ≤ length w))
   register-asks e = (R .base-small, (is-held e .0, R .coded .room))
 
-  pub row-register : (x : ℕ) → r .kind ≡ 2 → x ≡ codeAt w base j → x ≡ codeOf (rowIn w r base j)
+  -- What is answered for the row.
+  abbrev IsValue : ℕ → Type 0
+  IsValue x = x ≡ ifKnown (r .kind) (codeOf (rowIn w r base j)) noCode
+
+  pub row-register : (x : ℕ) → r .kind ≡ 2 → x ≡ codeAt w base j → IsValue x
   row-register x e h = rw e (h ∙ sym (code-of-value (codeAt w base j) (is-held e .1)))
 
-  pub row-and : (x : ℕ) → r .kind ≡ 3 → x ≡ codeOf (and3 (literalIn w (r .a)) (literalIn w (r .b))) → x ≡ codeOf (rowIn w r base j)
+  pub row-and : (x : ℕ) → r .kind ≡ 3 → x ≡ codeOf (and3 (literalIn w (r .a)) (literalIn w (r .b))) → IsValue x
   row-and x e h = rw e h
 
-  pub row-xor : (x : ℕ) → r .kind ≡ 4 → x ≡ codeOf (xor3 (literalIn w (r .a)) (literalIn w (r .b))) → x ≡ codeOf (rowIn w r base j)
+  pub row-xor : (x : ℕ) → r .kind ≡ 4 → x ≡ codeOf (xor3 (literalIn w (r .a)) (literalIn w (r .b))) → IsValue x
   row-xor x e h = rw e h
 
-  pub row-mux : (x : ℕ) → r .kind ≡ 5 → x ≡ codeOf (mux3 (literalIn w (r .a)) (literalIn w (r .b)) (literalIn w (r .c))) → x ≡ codeOf (rowIn w r base j)
+  pub row-mux : (x : ℕ) → r .kind ≡ 5 → x ≡ codeOf (mux3 (literalIn w (r .a)) (literalIn w (r .b)) (literalIn w (r .c))) → IsValue x
   row-mux x e h = rw e h
 
-  pub row-output : (x : ℕ) → r .kind ≡ 6 → x ≡ codeOf (literalIn w (r .a)) → x ≡ codeOf (rowIn w r base j)
+  pub row-output : (x : ℕ) → r .kind ≡ 6 → x ≡ codeOf (literalIn w (r .a)) → IsValue x
   row-output x e h = rw e h
 
-  -- A kind above 6 is read as the constant.
-  pub row-rest : (r .kind ≡ 1 → ⊥) → (r .kind ≡ 2 → ⊥) → (r .kind ≡ 3 → ⊥) → (r .kind ≡ 4 → ⊥) → (r .kind ≡ 5 → ⊥) → (r .kind ≡ 6 → ⊥) → 0 ≡ codeOf (rowIn w r base j)
-  row-rest = by-kind (r .kind)
-    where
-      by-kind : (k : ℕ) → (k ≡ 1 → ⊥) → (k ≡ 2 → ⊥) → (k ≡ 3 → ⊥) → (k ≡ 4 → ⊥) → (k ≡ 5 → ⊥) → (k ≡ 6 → ⊥)
-          → 0 ≡ codeOf (rowValue ternaryLogic (valueOf (codeAt w base j)) (λ l p. X) (valueIn w) (rowFromFields k (r .reset) (r .a) (r .b) (r .c)))
-      by-kind zero a b c d e f = refl
-      by-kind (suc zero) a b c d e f = absurd (a refl)
-      by-kind (suc (suc zero)) a b c d e f = absurd (b refl)
-      by-kind (suc (suc (suc zero))) a b c d e f = absurd (c refl)
-      by-kind (suc (suc (suc (suc zero)))) a b c d e f = absurd (d refl)
-      by-kind (suc (suc (suc (suc (suc zero))))) a b c d e f = absurd (e refl)
-      by-kind (suc (suc (suc (suc (suc (suc zero)))))) a b c d e f = absurd (f refl)
-      by-kind (suc (suc (suc (suc (suc (suc (suc k))))))) a b c d e f = refl
+  -- A kind above 6 gets no code.
+  pub row-unknown : (r .kind ≡ 0 → ⊥) → (r .kind ≡ 1 → ⊥) → (r .kind ≡ 2 → ⊥) → (r .kind ≡ 3 → ⊥) → (r .kind ≡ 4 → ⊥) → (r .kind ≡ 5 → ⊥) → (r .kind ≡ 6 → ⊥) → IsValue noCode
+  row-unknown = kind-unknown (r .kind) (codeOf (rowIn w r base j)) noCode

@@ -19,16 +19,17 @@ use Rattle.memory.proofs.FrameLaws.{kept-set, kept-at, kept-join, kept-sets, u1
 use Rattle.ternary.specs.Ternary.{Ternary, X, codeOf, valueOf}
 use Rattle.ternary.proofs.RuleLaws.{value-of-code, code-below}
 use Rattle.netlist.specs.Limits.{mostRows, mostOriginalRows, mostOriginalRegisters, foldWorkBytes, lastState}
-use Rattle.netlist.specs.Rows.{Row, register, decodeRow, rowAt, onRegister, isRegister, constant}
+use Rattle.netlist.specs.Rows.{Row, RowFields, register, decodeRow, rowAt, onRegister, isRegister, constant}
 use Rattle.netlist.specs.FileFormat.{rowOffset, readFields, netlistOf}
 use Rattle.netlist.specs.Simulation.{ternaryLogic, rowValue}
 use Rattle.netlist.specs.WellFormed.{OperandsBelow}
 use Rattle.netlist.proofs.SimulationLaws.{row-cong}
 use Rattle.lasso.specs.Generators.{stateValue}
-use Rattle.blockfile.specs.RowCode.{fieldsIn}
+use Rattle.blockfile.specs.RowCode.{fieldsIn, ifKnown}
+use Rattle.blockfile.proofs.RowCodeLaws.{kind-known}
 use Rattle.blockfile.specs.declared.Fields.{Fields}
 use Rattle.blockfile.proofs.CountLaws.{count-next, count-place, sorts-by, count-some-le}
-use Rattle.lasso_finder.specs.StateMap.{statePlace, valuePlace, nextPlace, codeAt, stateBytes, Packed, registersBefore, stateCodes, valueIn, stepValue, Coded, RowReady, rowIn, AtRow, Evaluated, NextsListed, Started}
+use Rattle.lasso_finder.specs.StateMap.{statePlace, valuePlace, nextPlace, codeAt, stateBytes, Packed, registersBefore, stateCodes, valueIn, stepValue, Coded, RowReady, rowIn, noCode, AtRow, Evaluated, NextsListed, Started}
 use Rattle.lasso_finder.specs.WorkMap.{knownPlace}
 use Rattle.lasso_finder.proofs.CodeLaws.{packed-at, packed-small, packed-more, packed-kept}
 use Rattle.lasso_finder.proofs.RegisterLaws.{register-row, reset-code, row-held, before-less, codes-register, codes-other, codes-length, codes-at, state-held, step-value}
@@ -136,7 +137,10 @@ module _ {f : List ℕ} {n i j : ℕ} (A : AtRow f n i j) where
         e ∙ ap (λ (b : Bool). j + cond b 1 0) (sym (sorts-by (r .kind) (r .reset) (r .a) (r .b) (r .c) .register-if) ∙ sym register-is)
         ∙ ap (λ (m : ℕ). m + cond (isRegister (rowAt (netlistOf f) i)) 1 0) (A .number) ∙ sym (count-next isRegister constant (netlistOf f) i row-within)
 
-    -- By its kind.
+    -- By its kind, which is one that there is.
+    kind-is : r .kind ≤ 6
+    kind-is = subst (λ (x : RowFields). x .kind ≤ 6) (sym read) (A .ready .file .known i (A .within))
+
     pub register-yes : r .kind ≡ 2 → isRegister (decodeRow (fieldsIn r)) ≡ true
     register-yes e = sorts-by (r .kind) (r .reset) (r .a) (r .b) (r .c) .register-if ∙ eq-eqb (r .kind) 2 e
 
@@ -185,13 +189,13 @@ module _ {f : List ℕ} {n i j : ℕ} (A : AtRow f n i j) where
           ∙ row-cong ternaryLogic (stateValue (netlistOf f) i t) (λ l p. X) (valueIn w) (stepValue (netlistOf f) t) i (λ x h. ap valueOf (E .values x h) ∙ value-of-code (stepValue (netlistOf f) t x)) (rowAt (netlistOf f) i) (o i row-within)
           ∙ sym (step-value (netlistOf f) o t i row-within)
 
-      pub evaluated-more : (x : ℕ) → t < lastState → x ≡ codeOf (rowIn w r base j) → ValuesKept w (set w (valuePlace i) x) × Evaluated (netlistOf f) (set w (valuePlace i) x) t (i + 1)
+      pub evaluated-more : (x : ℕ) → t < lastState → x ≡ ifKnown (r .kind) (codeOf (rowIn w r base j)) noCode → ValuesKept w (set w (valuePlace i) x) × Evaluated (netlistOf f) (set w (valuePlace i) x) t (i + 1)
       evaluated-more x h e =
           let s = row-small in
           let K : ValuesKept w (set w (valuePlace i) x) = kept-set (valuePlace 0) (valuePlace mostOriginalRows) (valuePlace i) x w (omega arith) (omega arith) in
           let c = E .coded .room in
           let here : byteAt (set w (valuePlace i) x) (valuePlace i) ≡ x = getD-set-same w (valuePlace i) x 0 (omega arith) in
-          let v : x ≡ codeOf (stepValue (netlistOf f) t i) = e ∙ ap codeOf row-value-is in (
+          let v : x ≡ codeOf (stepValue (netlistOf f) t i) = e ∙ kind-known (r .kind) (codeOf (rowIn w r base j)) noCode kind-is ∙ ap codeOf row-value-is in (
             K,
             record {
               coded = record {

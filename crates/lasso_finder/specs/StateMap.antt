@@ -107,6 +107,10 @@ pub record RowReady (w : List ℕ) (r : Fields) (base j : ℕ) : Type 0 where
 abbrev pub rowIn : List ℕ → Fields → ℕ → ℕ → Ternary
 rowIn w r base j = rowValue ternaryLogic (valueOf (codeAt w base j)) (λ l p. X) (valueIn w) (decodeRow (fieldsIn r))
 
+-- A byte that is no code.
+abbrev pub noCode : ℕ
+noCode = 3
+
 -- Row i is one of the n rows of the file f, and j registers stand before it.
 pub record AtRow (f : List ℕ) (n i j : ℕ) : Type 0 where
   pub ready : AnalysisReady f n

@@ -12,7 +12,8 @@ ghost use Rattle.ternary.specs.Ternary.{and3, xor3, mux3, codeOf};
 ghost use Rattle.netlist.specs.Limits.{mostOriginalRows, mostOriginalRegisters, foldWorkBytes, lastState};
 ghost use Rattle.netlist.specs.Rows.{isRegister};
 ghost use Rattle.netlist.specs.FileFormat.{rowOffset, netlistOf};
-ghost use Rattle.lasso_finder.specs.StateMap.{AnalysisReady, statePlace, valuePlace, nextPlace, codeAt, stateBytes, Packed, registersBefore, Coded, literalIn, RowReady, rowIn, AtRow, InBlock, BlockStop, Evaluated, Started, shownCodes, NextReady, Searched};
+ghost use Rattle.blockfile.specs.RowCode.{ifKnown};
+ghost use Rattle.lasso_finder.specs.StateMap.{AnalysisReady, statePlace, valuePlace, nextPlace, codeAt, stateBytes, Packed, registersBefore, Coded, literalIn, RowReady, rowIn, noCode, AtRow, InBlock, BlockStop, Evaluated, Started, shownCodes, NextReady, Searched};
 ghost use Rattle.lasso_finder.specs.WorkMap.{knownPlace};
 use blockfile::BLOCK_BYTES;
 use blockfile::BLOCK_ROWS;
@@ -25,6 +26,9 @@ pub const HISTORY: usize = 16384;
 pub const VALUES: usize = 32768;
 
 const NEXTS: usize = 33840;
+
+// A byte that is no code: the answer for a row of an unknown kind, which no accepted file has.
+const NO_CODE: u8 = 3;
 
 // The byte at which state t starts: 64 for each state before it, and before state 256 the rows' values.
 pub fn state_place(t: usize) -> usize
@@ -85,10 +89,10 @@ fn mux_value(work: &[u8], a: usize, b: usize, c: usize) -> u8
     ternary::lookup_mux(x, y, z)
 }
 
-// The value of a row; a register is register j of the state that starts at `base`.
+// The value of a row, no code if its kind is unknown; a register is register j of the state that starts at `base`.
 fn row_value(work: &[u8], row: blockfile::Fields, base: usize, j: usize) -> u8
     requires { ⌜ RowReady (now work) row base j ⌝ }
-    ensures { λ r. ⌜ r ≡ codeOf (rowIn (now (work .entry)) row base j) ⌝ }
+    ensures { λ r. ⌜ r ≡ ifKnown (row .kind) (codeOf (rowIn (now (work .entry)) row base j)) noCode ⌝ }
 {
     let kind = row.kind;
     let a = row.a;
@@ -102,7 +106,7 @@ fn row_value(work: &[u8], row: blockfile::Fields, base: usize, j: usize) -> u8
         4 => xor_value(work, a, b),
         5 => mux_value(work, a, b, c),
         6 => literal_value(work, a),
-        _ => 0,
+        7..=255 => NO_CODE,
     }
 }
 

@@ -1,6 +1,6 @@
--- `row_value` meets its contract: each arm is what the row's kind gives.
+-- `row_value` meets its contract: each arm is what the row's kind gives; a kind above 6 gets no code.
 -- Assumes nothing.
-use Rattle.lasso_finder.proofs.StateLaws.{register-asks, and-asks, xor-asks, mux-asks, output-asks, row-register, row-and, row-xor, row-mux, row-output, row-rest}
+use Rattle.lasso_finder.proofs.StateLaws.{register-asks, and-asks, xor-asks, mux-asks, output-asks, row-register, row-and, row-xor, row-mux, row-output, row-unknown}
 use mathlib.Core.Path.{refl}
 use Rattle.lasso_finder.proofs.states.row_value.Statement.{statement}
 use Rattle.lasso_finder.proofs.states.row_value.Tie as tie
@@ -42,7 +42,7 @@ returns-7 : tie.Need-returns-7
 returns-7 c = row-output (c .before .before .before .args .work .now) (c .before .before .before .args .row) (c .before .before .before .args .base) (c .before .before .before .args .j) (c .before .before .before .pre) (c .literal-value .result) (c .before .match .keys7) (c .literal-value .ensures .0)
 
 returns-8 : tie.Need-returns-8
-returns-8 c = let n = c .match .rest in row-rest (c .before .before .args .work .now) (c .before .before .args .row) (c .before .before .args .base) (c .before .before .args .j) (c .before .before .pre) (n .0 .0 .0 .0 .0 .1) (n .0 .0 .0 .0 .1) (n .0 .0 .0 .1) (n .0 .0 .1) (n .0 .1) (n .1)
+returns-8 c = let n = c .match .rest in row-unknown (c .before .before .args .work .now) (c .before .before .args .row) (c .before .before .args .base) (c .before .before .args .j) (c .before .before .pre) (n .0 .0 .0 .0 .0 .0 .1) (n .0 .0 .0 .0 .0 .1) (n .0 .0 .0 .0 .1) (n .0 .0 .0 .1) (n .0 .0 .1) (n .0 .1) (n .1)
 
 pub row-value-spec : {M : Type 1} → statement M
 row-value-spec =
