@@ -1,6 +1,6 @@
 -- The image of a literal, of a register and of a row, worked out from the bytes of `work`: a law for each way through the code, its premises the outcomes of the tests on it.
 -- Assumes nothing.
-use Prim.Native.Nat.{ℕ, zero, suc, _+_, _<_, _/_, _%_, _^_, _-_}
+use Prim.Native.Nat.{ℕ, zero, suc, _+_, _<_, _≤_, _/_, _%_, _^_, _-_}
 use mathlib.Core.Path.{_≡_, refl, sym, ap, _∙_, subst}
 use mathlib.Core.Bool.{cond}
 use mathlib.Core.List.{List}
@@ -10,18 +10,19 @@ use lib.Dec.{eqb}
 use borrow.Author.Tests.{eq-eqb, ne-eqb}
 use Rattle.memory.specs.Fields.{byteAt, u16At}
 use Rattle.ternary.specs.Ternary.{lo, hi, X}
-use Rattle.netlist.specs.Limits.{mostOriginalRows}
+use Rattle.netlist.specs.Limits.{mostRows, mostOriginalRows}
 use Rattle.netlist.specs.Rows.{input, register, RowFields, rowFromFields, decodeRow, rowAt}
 use Rattle.netlist.specs.FileFormat.{readFields, netlistOf}
 use Rattle.netlist.specs.WellFormed.{OperandsBelow, NextBelow}
-use Rattle.netlist.proofs.RowLaws.{other-kind}
 use Rattle.abstraction.specs.GateMaking.{complement, newRow, makeAnd, makeXor, makeMux}
 use Rattle.abstraction.specs.Unrolling.{complementBy, imageLiteral, registerImage, rowImage}
+use Rattle.blockfile.specs.RowCode.{ifKnown}
+use Rattle.blockfile.proofs.RowCodeLaws.{kind-unknown}
 use Rattle.gates.specs.declared.MadeImage.{MadeImage}
 use Rattle.gates.specs.declared.MadeImage.the-variants.{Kept}
 use Rattle.gates.specs.ImageCode.{imageCode}
 use Rattle.lasso_finder.specs.WorkMap.{knownPlace, knownIn}
-use Rattle.fold.specs.UnrollMap.{Original, imagePlace, imagesIn}
+use Rattle.fold.specs.UnrollMap.{Original, imagePlace, imagesIn, noLiteral}
 use Rattle.fold.proofs.StoredBytes.{image-get}
 
 -- ---- a literal
@@ -61,12 +62,19 @@ module _ (w : List ℕ) (i k s a b : ℕ) where
       → (n : ℕ) → a / 2 < n → Kept c ≡ imageCode (registerImage (knownIn w i k) k (imagesIn w (k - 1) n) s a b)
   register-known c p e n h = rw (ne-eqb (byteAt w (knownPlace i)) 0 p, ← e) (known-bit c k (imagesIn w (k - 1) n) s a b (omega arith))
 
+-- The literal of no row.
+pub literal-of-none : mostRows ≤ noLiteral / 2
+literal-of-none = omega arith
+
 -- ---- a row
 
 -- The fields of row i of the file.
 module _ (f : List ℕ) (i : ℕ) (O : Original f) (h : i < length (netlistOf f)) (d s a b c : ℕ) (e : _≡_ {A = RowFields} (record { kind = d; reset = s; a = a; b = b; c = c }) (readFields f i)) where
   row-is : rowAt (netlistOf f) i ≡ rowFromFields d s a b c
   row-is = O .file .row-is i h ∙ ap decodeRow (sym e)
+
+  kind-is : readFields f i .kind ≡ d
+  kind-is = ap (λ (x : RowFields). x .kind) (sym e)
 
   -- What its literals may name, by its kind.
   next : NextBelow (length (netlistOf f)) (rowFromFields d s a b c)
@@ -121,32 +129,33 @@ module _ (f : List ℕ) (i : ℕ) (O : Original f) (h : i < length (netlistOf f)
   -- Its image in phase k.
   module _ (w : List ℕ) (k : ℕ) where
     abbrev IsImage : MadeImage → Type 0
-    IsImage r = r ≡ imageCode (rowImage (knownIn w i k) k (imagesIn w (k - 1) (length (netlistOf f))) (imagesIn w k i) (rowAt (netlistOf f) i))
+    IsImage r = r ≡ ifKnown (readFields f i .kind) (imageCode (rowImage (knownIn w i k) k (imagesIn w (k - 1) (length (netlistOf f))) (imagesIn w k i) (rowAt (netlistOf f) i))) (Kept noLiteral)
 
     -- What `literal_image` answers for the literal l.
     abbrev IsRead : ℕ → ℕ → Type 0
     IsRead l r = (n : ℕ) → l / 2 < n → r ≡ imageLiteral (imagesIn w k n) l
 
     pub image-constant : d ≡ 0 → IsImage (Kept 0)
-    image-constant q = rw (row-is, q)
+    image-constant q = rw (kind-is, row-is, q)
 
     pub image-input : (r : MadeImage) → d ≡ 1 → r ≡ imageCode (newRow (input a k) 0) → IsImage r
-    image-input r q t = rw (row-is, q) t
+    image-input r q t = rw (kind-is, row-is, q) t
 
     pub image-register : (r : MadeImage) → d ≡ 2 → ((n : ℕ) → a / 2 < n → r ≡ imageCode (registerImage (knownIn w i k) k (imagesIn w (k - 1) n) s a b)) → IsImage r
-    image-register r q t = rw (row-is, q) (t (length (netlistOf f)) (next-names q))
+    image-register r q t = rw (kind-is, row-is, q) (t (length (netlistOf f)) (next-names q))
 
     pub image-and : (x y : ℕ) (r : MadeImage) → d ≡ 3 → IsRead a x → IsRead b y → r ≡ imageCode (makeAnd x y) → IsImage r
-    image-and x y r q rx ry t = let p = and-names q in rw (row-is, q, ← rx i (p .0), ← ry i (p .1)) t
+    image-and x y r q rx ry t = let p = and-names q in rw (kind-is, row-is, q, ← rx i (p .0), ← ry i (p .1)) t
 
     pub image-xor : (x y : ℕ) (r : MadeImage) → d ≡ 4 → IsRead a x → IsRead b y → r ≡ imageCode (makeXor x y) → IsImage r
-    image-xor x y r q rx ry t = let p = xor-names q in rw (row-is, q, ← rx i (p .0), ← ry i (p .1)) t
+    image-xor x y r q rx ry t = let p = xor-names q in rw (kind-is, row-is, q, ← rx i (p .0), ← ry i (p .1)) t
 
     pub image-mux : (x y z : ℕ) (r : MadeImage) → d ≡ 5 → IsRead a x → IsRead b y → IsRead c z → r ≡ imageCode (makeMux x y z) → IsImage r
-    image-mux x y z r q rx ry rz t = let p = mux-names q in rw (row-is, q, ← rx i (p .0), ← ry i (p .1), ← rz i (p .2)) t
+    image-mux x y z r q rx ry rz t = let p = mux-names q in rw (kind-is, row-is, q, ← rx i (p .0), ← ry i (p .1), ← rz i (p .2)) t
 
     pub image-output : (x : ℕ) → d ≡ 6 → IsRead a x → IsImage (Kept x)
-    image-output x q rx = rw (row-is, q) (ap Kept (rx i (output-names q)))
+    image-output x q rx = rw (kind-is, row-is, q) (ap Kept (rx i (output-names q)))
 
-    pub image-none : (d ≡ 0 → ⊥) → (d ≡ 1 → ⊥) → (d ≡ 2 → ⊥) → (d ≡ 3 → ⊥) → (d ≡ 4 → ⊥) → (d ≡ 5 → ⊥) → (d ≡ 6 → ⊥) → IsImage (Kept 0)
-    image-none n0 n1 n2 n3 n4 n5 n6 = rw (row-is, other-kind d s a b c n0 n1 n2 n3 n4 n5 n6)
+    -- A kind above 6 gets an image that names no row.
+    pub image-unknown : (d ≡ 0 → ⊥) → (d ≡ 1 → ⊥) → (d ≡ 2 → ⊥) → (d ≡ 3 → ⊥) → (d ≡ 4 → ⊥) → (d ≡ 5 → ⊥) → (d ≡ 6 → ⊥) → IsImage (Kept noLiteral)
+    image-unknown n0 n1 n2 n3 n4 n5 n6 = rw kind-is (kind-unknown d (imageCode (rowImage (knownIn w i k) k (imagesIn w (k - 1) (length (netlistOf f))) (imagesIn w k i) (rowAt (netlistOf f) i))) (Kept noLiteral) n0 n1 n2 n3 n4 n5 n6)

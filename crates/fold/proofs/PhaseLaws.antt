@@ -13,17 +13,19 @@ use Rattle.memory.proofs.FrameLaws.{kept-none, kept-wider, kept-join, kept-sets
 use Rattle.ternary.specs.Ternary.{Ternary}
 use Rattle.netlist.specs.Limits.{mostRows, mostPhases, mostOriginalRows}
 use Rattle.netlist.specs.Rows.{Row, constant, encodeRow, rowAt}
-use Rattle.netlist.specs.FileFormat.{rowOffset, fieldBytes, netlistOf}
+use Rattle.netlist.specs.FileFormat.{rowOffset, readFields, fieldBytes, netlistOf}
 use Rattle.abstraction.specs.GateMaking.{Image, existing, newRow, Unrolling, addImage}
 use Rattle.abstraction.specs.Unrolling.{rowImage, imageAt, unrollPhase, unrollPhases}
+use Rattle.blockfile.specs.RowCode.{ifKnown}
 use Rattle.blockfile.specs.RowsStand.{RowsStand}
+use Rattle.blockfile.proofs.RowCodeLaws.{kind-known}
 use Rattle.blockfile.proofs.StandLaws.{row-room, stand-more}
 use Rattle.gates.specs.declared.MadeRow.{MadeRow}
 use Rattle.gates.specs.declared.MadeImage.{MadeImage}
 use Rattle.gates.specs.declared.MadeImage.the-variants.{Kept, Fresh}
 use Rattle.gates.specs.ImageCode.{imageCode}
 use Rattle.lasso_finder.specs.WorkMap.{knownPlace, knownIn}
-use Rattle.fold.specs.UnrollMap.{Original, Room, imagePlace, imagesEnd, imagesIn, fieldsMade, literalMade, ImagePlaced, Placed, unrolledTo, UnderWay}
+use Rattle.fold.specs.UnrollMap.{Original, Room, imagePlace, imagesEnd, imagesIn, noLiteral, fieldsMade, literalMade, ImagePlaced, Placed, unrolledTo, UnderWay}
 use Rattle.fold.proofs.StoredBytes.{images-kept, images-more}
 use Rattle.fold.proofs.UnrollFacts.{image-first, made-few}
 
@@ -100,11 +102,13 @@ module _ (f : List ℕ) (k i m : ℕ) (result work : List ℕ) (O : Original f) 
   row-fits = omega (arith, U .placed .counted, made-few (knownIn work) (netlistOf f) (O .accepted) k i kb ib)
 
   pub row-done : (image : MadeImage) (result′ work′ : List ℕ) (r : ℕ) → Room result work
-      → image ≡ imageCode (rowImage (knownIn work i k) k (imagesIn work (k - 1) (length (netlistOf f))) (imagesIn work k i) (rowAt (netlistOf f) i)) → ImagePlaced image m (imagePlace k i) result work result′ work′ r
+      → image ≡ ifKnown (readFields f i .kind) (imageCode (rowImage (knownIn work i k) k (imagesIn work (k - 1) (length (netlistOf f))) (imagesIn work k i) (rowAt (netlistOf f) i))) (Kept noLiteral) → ImagePlaced image m (imagePlace k i) result work result′ work′ r
       → UnderWay (knownIn work) (netlistOf f) k (suc i) result′ work′ r × KeptOutside 0 imagesEnd work work′
   row-done image result′ work′ r R e I =
-      let few = O .accepted .small in (
-        row-again (knownIn work) (netlistOf f) k i result work m U image result′ work′ r e R kb ib few row-fits I,
+      let few = O .accepted .small in
+      let y = rowImage (knownIn work i k) k (imagesIn work (k - 1) (length (netlistOf f))) (imagesIn work k i) (rowAt (netlistOf f) i) in
+      let q : image ≡ imageCode y = e ∙ kind-known (readFields f i .kind) (imageCode y) (Kept noLiteral) (O .file .known i ib) in (
+        row-again (knownIn work) (netlistOf f) k i result work m U image result′ work′ r q R kb ib few row-fits I,
         kept-wider 0 imagesEnd (literal-frame image m (imagePlace k i) r result work result′ work′ I) (omega arith) (omega arith),
       )
 

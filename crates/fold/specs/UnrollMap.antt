@@ -45,6 +45,10 @@ imagesEnd = imagePlace mostPhases 0
 unfoldable pub imagesIn : List ℕ → ℕ → ℕ → List ℕ
 imagesIn w k n = tabulate n (λ i. u16At w (imagePlace k i))
 
+-- A literal that names no row: no file has as many.
+abbrev pub noLiteral : ℕ
+noLiteral = 65535
+
 -- ---- an image is placed
 
 abbrev pub fieldsMade : MadeRow → RowFields

@@ -9,11 +9,12 @@ ghost use Rattle.memory.specs.Frames.{KeptOutside};
 ghost use Rattle.ternary.specs.Ternary.{Ternary, X};
 ghost use Rattle.netlist.specs.Limits.{mostRows, mostPhases, mostOriginalRows, foldResultBytes, foldWorkBytes};
 ghost use Rattle.netlist.specs.Rows.{rowAt, input};
-ghost use Rattle.netlist.specs.FileFormat.{rowOffset, fieldBytes, netlistOf};
+ghost use Rattle.netlist.specs.FileFormat.{rowOffset, readFields, fieldBytes, netlistOf};
 ghost use Rattle.abstraction.specs.GateMaking.{newRow};
 ghost use Rattle.abstraction.specs.Unrolling.{imageLiteral, registerImage, rowImage, unrolledNetlist};
-ghost use Rattle.blockfile.specs.RowCode.{Small};
+ghost use Rattle.blockfile.specs.RowCode.{Small, ifKnown};
 ghost use Rattle.blockfile.specs.RowsStand.{RowsStand};
+ghost use Rattle.gates.specs.declared.MadeImage.the-variants.{Kept};
 ghost use Rattle.gates.specs.ImageCode.{imageCode};
 ghost use Rattle.lasso_finder.specs.WorkMap.{knownIn};
 ghost use Rattle.fold.specs.UnrollMap.{
@@ -22,6 +23,7 @@ ghost use Rattle.fold.specs.UnrollMap.{
   imagePlace,
   imagesEnd,
   imagesIn,
+  noLiteral,
   fieldsMade,
   ImagePlaced,
   UnderWay,
@@ -40,6 +42,9 @@ const PHASE_BYTES: usize = 2016;
 
 // Where what is known of each row begins.
 const KNOWN_AT: usize = 33840;
+
+// A literal that names no row: the answer for a row of an unknown kind, which no accepted file has.
+const NO_LITERAL: u16 = 65535;
 
 // Writes the eight bytes of row number `row`.
 fn put_row(result: &mut [u8], row: usize, x: MadeRow)
@@ -146,11 +151,11 @@ fn register_image(work: &[u8], x: Fields, k: usize, i: usize) -> MadeImage
     MadeImage::Kept(bit)
 }
 
-// The image of row i in phase k, worked out.
+// The image of row i in phase k, worked out; one that names no row if the kind is unknown.
 fn row_image(file: &[u8], work: &[u8], k: usize, i: usize) -> MadeImage
     requires { ⌜ Original (now file) × (i < length (netlistOf (now file))) ⌝ }
     requires { ⌜ (k < mostPhases) × (foldWorkBytes ≤ length (now work)) ⌝ }
-    ensures { λ r. ⌜ r ≡ imageCode (rowImage (knownIn (now (work .entry)) i k) k (imagesIn (now (work .entry)) (k - 1) (length (netlistOf (now (file .entry))))) (imagesIn (now (work .entry)) k i) (rowAt (netlistOf (now (file .entry))) i)) ⌝ }
+    ensures { λ r. ⌜ r ≡ ifKnown (readFields (now (file .entry)) i .kind) (imageCode (rowImage (knownIn (now (work .entry)) i k) k (imagesIn (now (work .entry)) (k - 1) (length (netlistOf (now (file .entry))))) (imagesIn (now (work .entry)) k i) (rowAt (netlistOf (now (file .entry))) i))) (Kept noLiteral) ⌝ }
 {
     let x = blockfile::read_row(file, i);
     let kind = x.kind;
@@ -166,7 +171,7 @@ fn row_image(file: &[u8], work: &[u8], k: usize, i: usize) -> MadeImage
             literal_image(work, k, x.c),
         ),
         6 => MadeImage::Kept(literal_image(work, k, x.a)),
-        _ => MadeImage::Kept(0),
+        7..=255 => MadeImage::Kept(NO_LITERAL),
     }
 }
 

@@ -1,8 +1,8 @@
--- `row_image` gives the model's image, kind by kind. What a row's literals name is in range, since the file is accepted.
+-- `row_image` gives the model's image, kind by kind, and for a kind above 6 one that names no row. What a row's literals name is in range, since the file is accepted.
 -- Assumes nothing.
 use native.Mathlib.Omega.{arith}
 use borrow.Author.Needs.{needs}
-use Rattle.fold.proofs.ImageWays.{next-fits, and-first-fits, and-second-fits, xor-first-fits, xor-second-fits, mux-first-fits, mux-second-fits, mux-third-fits, output-fits, image-constant, image-input, image-register, image-and, image-xor, image-mux, image-output, image-none}
+use Rattle.fold.proofs.ImageWays.{next-fits, and-first-fits, and-second-fits, xor-first-fits, xor-second-fits, mux-first-fits, mux-second-fits, mux-third-fits, output-fits, image-constant, image-input, image-register, image-and, image-xor, image-mux, image-output, image-unknown}
 use Rattle.fold.proofs.unroll.row_image.Statement.{statement}
 use Rattle.fold.proofs.unroll.row_image.Tie as tie
 
@@ -70,7 +70,7 @@ returns-7 : tie.Need-returns-7
 returns-7 c = search image-output
 
 returns-8 : tie.Need-returns-8
-returns-8 c = search image-none
+returns-8 c = search image-unknown
 
 pub row-image-spec : {M : Type 1} → statement M
 row-image-spec =
