@@ -237,7 +237,7 @@ fn test_row(file: &[u8], rows: usize, row: usize, nodes: bool, fields: Fields) -
                 literals: names_node(file, rows, a),
             }
         }
-        _ => RowTests {
+        7..=255 => RowTests {
             kind: false,
             fields: false,
             named: false,
