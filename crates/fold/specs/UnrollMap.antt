@@ -45,7 +45,7 @@ imagesEnd = imagePlace mostPhases 0
 unfoldable pub imagesIn : List ℕ → ℕ → ℕ → List ℕ
 imagesIn w k n = tabulate n (λ i. u16At w (imagePlace k i))
 
--- A literal that names no row: no file has as many.
+-- A literal that names no row: the row would be the 32,768th, and a file has 8,064 at most.
 abbrev pub noLiteral : ℕ
 noLiteral = 65535
 

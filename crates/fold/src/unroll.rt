@@ -171,7 +171,7 @@ fn row_image(file: &[u8], work: &[u8], k: usize, i: usize) -> MadeImage
             literal_image(work, k, x.c),
         ),
         6 => MadeImage::Kept(literal_image(work, k, x.a)),
-        7..=255 => MadeImage::Kept(NO_LITERAL),
+        7..=255 => return MadeImage::Kept(NO_LITERAL),
     }
 }
 

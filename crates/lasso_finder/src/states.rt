@@ -106,7 +106,7 @@ fn row_value(work: &[u8], row: blockfile::Fields, base: usize, j: usize) -> u8
         4 => xor_value(work, a, b),
         5 => mux_value(work, a, b, c),
         6 => literal_value(work, a),
-        7..=255 => NO_CODE,
+        7..=255 => return NO_CODE,
     }
 }
 

@@ -131,7 +131,7 @@ fn row_value(
             mux_of(selector, x, y)
         }
         6 => field_value(file, at_a, work, current),
-        7..=255 => NO_VALUE,
+        7..=255 => return NO_VALUE,
     }
 }
 

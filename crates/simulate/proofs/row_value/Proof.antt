@@ -54,28 +54,28 @@ field-value-requires-8 : tie.Need-field-value-requires-8
 field-value-requires-8 c κs = search (output-names, needs)
 
 returns : tie.Need-returns
-returns c = search value-constant
+returns c = search value-unknown
 
 returns-2 : tie.Need-returns-2
-returns-2 c = search value-input
+returns-2 c = search value-constant
 
 returns-3 : tie.Need-returns-3
-returns-3 c = search value-register
+returns-3 c = search value-input
 
 returns-4 : tie.Need-returns-4
-returns-4 c = search value-and
+returns-4 c = search value-register
 
 returns-5 : tie.Need-returns-5
-returns-5 c = search value-xor
+returns-5 c = search value-and
 
 returns-6 : tie.Need-returns-6
-returns-6 c = search value-mux
+returns-6 c = search value-xor
 
 returns-7 : tie.Need-returns-7
-returns-7 c = search value-output
+returns-7 c = search value-mux
 
 returns-8 : tie.Need-returns-8
-returns-8 c = search value-unknown
+returns-8 c = search value-output
 
 pub row-value-spec : {M : Type 1} → statement M
 row-value-spec =

@@ -49,28 +49,28 @@ literal-image-requires-8 : tie.Need-literal-image-requires-8
 literal-image-requires-8 c κs = search (needs, output-fits)
 
 returns : tie.Need-returns
-returns c = search image-constant
+returns c = search image-unknown
 
 returns-2 : tie.Need-returns-2
-returns-2 c = search image-input
+returns-2 c = search image-constant
 
 returns-3 : tie.Need-returns-3
-returns-3 c = search image-register
+returns-3 c = search image-input
 
 returns-4 : tie.Need-returns-4
-returns-4 c = search image-and
+returns-4 c = search image-register
 
 returns-5 : tie.Need-returns-5
-returns-5 c = search image-xor
+returns-5 c = search image-and
 
 returns-6 : tie.Need-returns-6
-returns-6 c = search image-mux
+returns-6 c = search image-xor
 
 returns-7 : tie.Need-returns-7
-returns-7 c = search image-output
+returns-7 c = search image-mux
 
 returns-8 : tie.Need-returns-8
-returns-8 c = search image-unknown
+returns-8 c = search image-output
 
 pub row-image-spec : {M : Type 1} → statement M
 row-image-spec =
