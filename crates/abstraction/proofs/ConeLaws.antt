@@ -20,16 +20,16 @@ use Rattle.abstraction.specs.Compaction.{faninNodes, isConeRoot, isMarke
 use Rattle.abstraction.proofs.CompactionLaws.{AllMarked, ClosedUnderFanin, marked-lt}
 
 -- Every mark of m is one of m′.
-abbrev pub MarksOf : List Bool → List Bool → Type 0
-MarksOf m m′ = (j : ℕ) → isMarked m j ≡ true → isMarked m′ j ≡ true
+abbrev pub MarksWithin : List Bool → List Bool → Type 0
+MarksWithin m m′ = (j : ℕ) → isMarked m j ≡ true → isMarked m′ j ≡ true
 
-set-keeps : (m : List Bool) (j : ℕ) → MarksOf m (set m j true)
+set-keeps : (m : List Bool) (j : ℕ) → MarksWithin m (set m j true)
 set-keeps m j x h = elim (ℕ-discrete x j) [
   | yes e ↦ rw (← e) (getD-set-same m x true false (marked-lt m x h))
   | no e ↦ getD-set-other m j x true false e ∙ h
 ]
 
-pub markAll-keeps : (m : List Bool) (js : List ℕ) → MarksOf m (markAll m js)
+pub markAll-keeps : (m : List Bool) (js : List ℕ) → MarksWithin m (markAll m js)
 markAll-keeps m [] x h = h
 markAll-keeps m (j ∷ js) x h = markAll-keeps (set m j true) js x (set-keeps m j x h)
 
@@ -37,7 +37,7 @@ markAll-length : (m : List Bool) (js : List ℕ) → length (markAll m js) ≡ l
 markAll-length m [] = refl
 markAll-length m (j ∷ js) = markAll-length (set m j true) js ∙ length-set m j true
 
-pub all-keep : (m m′ : List Bool) → MarksOf m m′ → (js : List ℕ) → AllMarked m js → AllMarked m′ js
+pub all-keep : (m m′ : List Bool) → MarksWithin m m′ → (js : List ℕ) → AllMarked m js → AllMarked m′ js
 all-keep m m′ s [] h = tt
 all-keep m m′ s (j ∷ js) h = (s j (h .0), all-keep m m′ s js (h .1))
 
@@ -56,10 +56,10 @@ count-full (true ∷ m) h zero l = refl
 count-full (true ∷ m) h (suc j) l = count-full m (omega arith) j (omega arith)
 count-full (false ∷ m) h j l = absurd (omega (arith, count-le (λ b. b) m))
 
-keeps-tail : (a b : Bool) (m m′ : List Bool) → MarksOf (a ∷ m) (b ∷ m′) → MarksOf m m′
+keeps-tail : (a b : Bool) (m m′ : List Bool) → MarksWithin (a ∷ m) (b ∷ m′) → MarksWithin m m′
 keeps-tail a b m m′ s j h = s (suc j) h
 
-count-keeps : (m m′ : List Bool) → length m ≡ length m′ → MarksOf m m′ → marks m ≤ marks m′
+count-keeps : (m m′ : List Bool) → length m ≡ length m′ → MarksWithin m m′ → marks m ≤ marks m′
 count-keeps [] m′ e s = omega arith
 count-keeps (a ∷ m) [] e s = absurd (omega arith)
 count-keeps (true ∷ m) (true ∷ m′) e s = omega (arith, count-keeps m m′ (omega arith) (keeps-tail true true m m′ s))
@@ -67,7 +67,7 @@ count-keeps (true ∷ m) (false ∷ m′) e s = absurd (false≢true (s 0 refl))
 count-keeps (false ∷ m) (true ∷ m′) e s = omega (arith, count-keeps m m′ (omega arith) (keeps-tail false true m m′ s))
 count-keeps (false ∷ m) (false ∷ m′) e s = omega (arith, count-keeps m m′ (omega arith) (keeps-tail false false m m′ s))
 
-count-more : (m m′ : List Bool) → length m ≡ length m′ → MarksOf m m′ → equalMarks m m′ ≡ false → marks m < marks m′
+count-more : (m m′ : List Bool) → length m ≡ length m′ → MarksWithin m m′ → equalMarks m m′ ≡ false → marks m < marks m′
 count-more [] [] e s d = absurd (true≢false d)
 count-more [] (b ∷ m′) e s d = absurd (omega arith)
 count-more (a ∷ m) [] e s d = absurd (omega arith)
@@ -90,13 +90,13 @@ module _ (rows : List Row) where
   abbrev touch : ℕ → List Bool → List Bool
   touch n m = cond (isMarked m n) (markAll m (faninNodes (rowAt rows n))) m
 
-  touch-keeps : (n : ℕ) (m : List Bool) → MarksOf m (touch n m)
-  touch-keeps n m = cond-case (MarksOf m) (isMarked m n) _ _ (λ _. markAll-keeps m (faninNodes (rowAt rows n))) (λ _ j h. h)
+  touch-keeps : (n : ℕ) (m : List Bool) → MarksWithin m (touch n m)
+  touch-keeps n m = cond-case (MarksWithin m) (isMarked m n) _ _ (λ _. markAll-keeps m (faninNodes (rowAt rows n))) (λ _ j h. h)
 
   touch-length : (n : ℕ) (m : List Bool) → length (touch n m) ≡ length m
   touch-length n m = cond-case (λ x. length x ≡ length m) (isMarked m n) _ _ (λ _. markAll-length m (faninNodes (rowAt rows n))) (λ _. refl)
 
-  sweep-keeps : (n : ℕ) (m : List Bool) → MarksOf m (markSweep rows n m)
+  sweep-keeps : (n : ℕ) (m : List Bool) → MarksWithin m (markSweep rows n m)
   unfolding markSweep
   sweep-keeps zero m j h = h
   sweep-keeps (suc n) m j h = sweep-keeps n (touch n m) j (touch-keeps n m j h)
@@ -111,11 +111,11 @@ module _ (rows : List Row) where
 
   module _ (inside : (j : ℕ) → j < length rows → EachBelow (length rows) (faninNodes (rowAt rows j))) where
     -- Where a sweep adds nothing, the marks are closed.
-    sweep-closed : (n : ℕ) → n ≤ length rows → (m : List Bool) → length m ≡ length rows → MarksOf (markSweep rows n m) m → (j : ℕ) → j < n → isMarked m j ≡ true → AllMarked m (faninNodes (rowAt rows j))
+    sweep-closed : (n : ℕ) → n ≤ length rows → (m : List Bool) → length m ≡ length rows → MarksWithin (markSweep rows n m) m → (j : ℕ) → j < n → isMarked m j ≡ true → AllMarked m (faninNodes (rowAt rows j))
     unfolding markSweep
     sweep-closed zero b m e s j l h = absurd (omega arith)
     sweep-closed (suc n) b m e s j l h =
-        let back : MarksOf (touch n m) m = λ x k. s x (sweep-keeps n (touch n m) x k) in
+        let back : MarksWithin (touch n m) m = λ x k. s x (sweep-keeps n (touch n m) x k) in
         last-or j n l
         (λ k. all-keep (touch n m) m back (faninNodes (rowAt rows j))
         (sweep-closed n (omega arith) (touch n m) (touch-length n m ∙ e) (λ x q. touch-keeps n m x (s x q)) j k (touch-keeps n m j h)))
@@ -150,7 +150,7 @@ module _ (rows : List Row) where
       go true q = refl
       go false q = q
 
-  fixpoint-keeps : (f : ℕ) (m : List Bool) → MarksOf m (markFixpoint rows f m)
+  fixpoint-keeps : (f : ℕ) (m : List Bool) → MarksWithin m (markFixpoint rows f m)
   unfolding markFixpoint
   fixpoint-keeps zero m = λ j h. h
   fixpoint-keeps (suc f) m = go (equalMarks m m′) (λ j h. fixpoint-keeps f m′ j (sweep-keeps (length rows) m j h))
@@ -158,7 +158,7 @@ module _ (rows : List Row) where
       m′ : List Bool
       m′ = markSweep rows (length rows) m
 
-      go : (t : Bool) → MarksOf m (markFixpoint rows f m′) → MarksOf m (elim t [ true ↦ m | false ↦ markFixpoint rows f m′ ])
+      go : (t : Bool) → MarksWithin m (markFixpoint rows f m′) → MarksWithin m (elim t [ true ↦ m | false ↦ markFixpoint rows f m′ ])
       go true q = λ j h. h
       go false q = q
 
@@ -222,25 +222,25 @@ root-in (r ∷ rows) (suc j) h = let k = root-in rows j h in (omega (arith, k .0
 
 -- ---- the cone is the least marks that have the roots and are closed
 
-set-within : (m c : List Bool) (j : ℕ) → MarksOf m c → isMarked c j ≡ true → MarksOf (set m j true) c
+set-within : (m c : List Bool) (j : ℕ) → MarksWithin m c → isMarked c j ≡ true → MarksWithin (set m j true) c
 set-within m c j s h x k = elim (ℕ-discrete x j) [
   | yes e ↦ rw e h
   | no e ↦ s x (sym (getD-set-other m j x true false e) ∙ k)
 ]
 
-pub markAll-within : (m c : List Bool) (js : List ℕ) → MarksOf m c → AllMarked c js → MarksOf (markAll m js) c
+pub markAll-within : (m c : List Bool) (js : List ℕ) → MarksWithin m c → AllMarked c js → MarksWithin (markAll m js) c
 markAll-within m c [] s a = s
 markAll-within m c (j ∷ js) s a = markAll-within (set m j true) c js (set-within m c j s (a .0)) (a .1)
 
 module _ (rows : List Row) (c : List Bool) (closed : ClosedUnderFanin rows c) where
-  sweep-within : (n : ℕ) → n ≤ length rows → (m : List Bool) → MarksOf m c → MarksOf (markSweep rows n m) c
+  sweep-within : (n : ℕ) → n ≤ length rows → (m : List Bool) → MarksWithin m c → MarksWithin (markSweep rows n m) c
   unfolding markSweep
   sweep-within zero b m s = s
   sweep-within (suc n) b m s =
       sweep-within n (omega arith) (touch rows n m)
-      (cond-case (λ x. MarksOf x c) (isMarked m n) _ _ (λ e. markAll-within m c (faninNodes (rowAt rows n)) s (closed n (omega arith) (s n e))) (λ _. s))
+      (cond-case (λ x. MarksWithin x c) (isMarked m n) _ _ (λ e. markAll-within m c (faninNodes (rowAt rows n)) s (closed n (omega arith) (s n e))) (λ _. s))
 
-  fixpoint-within : (f : ℕ) (m : List Bool) → MarksOf m c → MarksOf (markFixpoint rows f m) c
+  fixpoint-within : (f : ℕ) (m : List Bool) → MarksWithin m c → MarksWithin (markFixpoint rows f m) c
   unfolding markFixpoint
   fixpoint-within zero m s = s
   fixpoint-within (suc f) m s = go (equalMarks m m′) (fixpoint-within f m′ (sweep-within (length rows) (omega arith) m s))
@@ -248,11 +248,11 @@ module _ (rows : List Row) (c : List Bool) (closed : ClosedUnderFanin rows c) wh
       m′ : List Bool
       m′ = markSweep rows (length rows) m
 
-      go : (t : Bool) → MarksOf (markFixpoint rows f m′) c → MarksOf (elim t [ true ↦ m | false ↦ markFixpoint rows f m′ ]) c
+      go : (t : Bool) → MarksWithin (markFixpoint rows f m′) c → MarksWithin (elim t [ true ↦ m | false ↦ markFixpoint rows f m′ ]) c
       go true q = s
       go false q = q
 
-  pub cone-least : ((j : ℕ) → j < length rows → isConeRoot (rowAt rows j) ≡ true → isMarked c j ≡ true) → MarksOf (coneOfInfluence rows) c
+  pub cone-least : ((j : ℕ) → j < length rows → isConeRoot (rowAt rows j) ≡ true → isMarked c j ≡ true) → MarksWithin (coneOfInfluence rows) c
   unfolding coneOfInfluence
   cone-least roots = fixpoint-within _ _ (λ j h. let k = root-in rows j h in roots j (k .0) (k .1))
 

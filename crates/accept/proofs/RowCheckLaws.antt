@@ -29,7 +29,7 @@ use Rattle.accept.specs.declared.Acceptance.the-variants.{Accepted, Refu
 use Rattle.accept.specs.declared.RowTests.{RowTests}
 use Rattle.accept.specs.Refusals.{refusalIn, acceptRefusal, refusalAt}
 use Rattle.accept.specs.RowChecks.{RowsOf, onlyNodes, TestsOf}
-use Rattle.accept.specs.Marks.{labels, allSlots, slotOf, markBytes, MarksOf}
+use Rattle.accept.specs.Marks.{labels, allSlots, slotOf, markBytes, NamesMarked}
 use Rattle.accept.proofs.RefusalLaws.{number-positive, items-stop, items-again}
 use Rattle.accept.proofs.AcceptedRows.{fields-length, output-kind, output-at}
 use Rattle.accept.proofs.MarkLaws.{slot-small, marks-none}
@@ -125,7 +125,7 @@ module _ {f : List ℕ} {i : ℕ} {w : Fields} {only : Bool} {t : RowTests} (A :
 
   -- The code's answer, and the marks that it leaves.
   abbrev pub Answered : Bool → Refusal → List ℕ → Type 0
-  Answered few q after = (q ≡ refusalAt (rowQuestions namesEarlier (fieldsOf f) i) i) × (rowQuestions namesEarlier (fieldsOf f) i ≡ 0 → MarksOf few (netlistOf f) (i + 1) after)
+  Answered few q after = (q ≡ refusalAt (rowQuestions namesEarlier (fieldsOf f) i) i) × (rowQuestions namesEarlier (fieldsOf f) i ≡ 0 → NamesMarked few (netlistOf f) (i + 1) after)
 
   refused : (m : ℕ) {few : Bool} {after : List ℕ} → rowQuestions namesEarlier (fieldsOf f) i ≡ suc m → Answered few (record { number = suc m; place = i }) after
   refused m e = (sym (ap (λ (q : ℕ). refusalAt q i) e), λ z. absurd (omega (arith, e, z)))
@@ -170,7 +170,7 @@ module _ {f : List ℕ} {i : ℕ} {w : Fields} {only : Bool} {t : RowTests} (A :
           pub no-literal : not (t .literals) ≡ true → Answered few (record { number = 9; place = i }) after
           no-literal h = refused 8 (asked ∙ rw (kind-yes, fields-yes, ← label-is, not-false new label, ← A .tests .literals kind-yes, not-true (t .literals) h))
 
-          pub row-right : not (t .literals) ≡ false → MarksOf few (netlistOf f) (i + 1) after → Answered few noRefusal after
+          pub row-right : not (t .literals) ≡ false → NamesMarked few (netlistOf f) (i + 1) after → Answered few noRefusal after
           row-right h M =
               let e : rowQuestions namesEarlier (fieldsOf f) i ≡ 0 = asked ∙ rw (kind-yes, fields-yes, ← label-is, not-false new label, ← A .tests .literals kind-yes, not-false (t .literals) h) in
               (sym (ap (λ (q : ℕ). refusalAt q i) e), λ _. M)
@@ -195,7 +195,7 @@ some-output rows e =
 pub record PassedRows (f : List ℕ) (only few : Bool) (marks : List ℕ) (n : ℕ) : Type 0 where
   pub right : (j : ℕ) → j < n → rowQuestions namesEarlier (fieldsOf f) j ≡ 0
   pub nodes : only ≡ onlyNodes (netlistOf f) n
-  pub names : MarksOf few (netlistOf f) n marks
+  pub names : NamesMarked few (netlistOf f) n marks
 
 pub passed-none : (f : List ℕ) (few : Bool) (marks : List ℕ) → length marks ≡ markBytes few → PassedRows f true few marks 0
 passed-none f few marks size = record { right = λ j l. absurd (omega arith); nodes = refl; names = marks-none few (netlistOf f) marks size }
@@ -222,7 +222,7 @@ module _ {f : List ℕ} {rows : ℕ} (R : RowsOf f rows) {n : ℕ} {only few : B
         let p : 0 < items f .number = omega (arith, number-positive x, ap (λ (y : Refusal). y .number) q) in
         q ∙ sym (rows-asked f ∙ list-stop (items f) (tenth f) p)
 
-    pub rows-again : a ≡ Accepted → {after : List ℕ} → (rowQuestions namesEarlier (fieldsOf f) n ≡ 0 → MarksOf few (netlistOf f) (n + 1) after) → (w : Fields) → fieldsIn w ≡ readFields f n → {b : Bool} → b ≡ only && not (eqb (w .kind) 6) → PassedRows f b few after (n + 1)
+    pub rows-again : a ≡ Accepted → {after : List ℕ} → (rowQuestions namesEarlier (fieldsOf f) n ≡ 0 → NamesMarked few (netlistOf f) (n + 1) after) → (w : Fields) → fieldsIn w ≡ readFields f n → {b : Bool} → b ≡ only && not (eqb (w .kind) 6) → PassedRows f b few after (n + 1)
     rows-again e m w read eb =
         let right = items-again (rowCount f) (rowQuestions namesEarlier (fieldsOf f)) n within (P .right) a asked e in
         let o : isOutput (rowAt (netlistOf f) n) ≡ eqb (w .kind) 6 = ap isOutput (row-at f n within ∙ ap decodeRow (sym read)) ∙ output-kind (fieldsIn w) in

@@ -21,7 +21,7 @@ ghost use Rattle.blockfile.specs.RowCode.{fieldsIn, Small};
 ghost use Rattle.blockfile.specs.BlockCode.{blockNumber};
 ghost use Rattle.accept.specs.Refusals.{numberOf, placeOf, acceptRefusal, refusalAt, blocksRefusal};
 ghost use Rattle.accept.specs.RowChecks.{BlocksRight, RowsOf, onlyNodes, TestsOf};
-ghost use Rattle.accept.specs.Marks.{allSlots, slotOf, markBytes, bitOf, bitAt, withBit, MarksOf};
+ghost use Rattle.accept.specs.Marks.{allSlots, slotOf, markBytes, bitOfSlot, markAt, withBit, NamesMarked};
 use blockfile::Fields;
 use blockfile::blocks::BlockAnswer;
 use blockfile::both;
@@ -250,7 +250,7 @@ fn test_row(file: &[u8], rows: usize, row: usize, nodes: bool, fields: Fields) -
 // The bit of a name's slot; if bits are few, slots share them.
 fn bit_of(few: bool, slot: usize) -> usize
     requires { ⌜ slot < allSlots ⌝ }
-    ensures { λ r. ⌜ r ≡ bitOf few slot ⌝ }
+    ensures { λ r. ⌜ r ≡ bitOfSlot few slot ⌝ }
 {
     if few {
         let apart = slot / LABELS * 352;
@@ -264,7 +264,7 @@ fn bit_of(few: bool, slot: usize) -> usize
 // Whether the bit is free; it is set afterwards.
 fn mark_new(marks: &mut [u8], bit: usize) -> bool
     requires { ⌜ bit < 8 * length (now marks) ⌝ }
-    ensures { λ r. ⌜ (r ≡ eqb (bitAt (now (marks .entry)) bit) 0) × (now (marks .exit) ≡ withBit (now (marks .entry)) bit) ⌝ }
+    ensures { λ r. ⌜ (r ≡ eqb (markAt (now (marks .entry)) bit) 0) × (now (marks .exit) ≡ withBit (now (marks .entry)) bit) ⌝ }
 {
     let at = bit / 8;
     let shift = bit % 8;
@@ -315,8 +315,8 @@ fn label_is_new(
 ) -> bool
     requires { ⌜ RowsOf (now file) (rowCount (now file)) × (row < rowCount (now file)) ⌝ }
     requires { ⌜ (named ≡ hasName (rowAt (netlistOf (now file)) row)) × ((slot ≡ slotOf (rowAt (netlistOf (now file)) row)) × (slot < allSlots)) ⌝ }
-    requires { ⌜ MarksOf few (netlistOf (now file)) row (now marks) ⌝ }
-    ensures { λ r. ⌜ (r ≡ labelIsNew (netlistOf (now (file .entry))) row) × MarksOf few (netlistOf (now (file .entry))) (row + 1) (now (marks .exit)) ⌝ }
+    requires { ⌜ NamesMarked few (netlistOf (now file)) row (now marks) ⌝ }
+    ensures { λ r. ⌜ (r ≡ labelIsNew (netlistOf (now (file .entry))) row) × NamesMarked few (netlistOf (now (file .entry))) (row + 1) (now (marks .exit)) ⌝ }
 {
     if named {
         let bit = bit_of(few, slot);
@@ -341,9 +341,9 @@ fn check_row(
     marks: &mut [u8],
 ) -> Acceptance
     requires { ⌜ RowsOf (now file) rows × ((row < rows) × ((fieldsIn fields ≡ readFields (now file) row) × Small fields)) ⌝ }
-    requires { ⌜ (nodes ≡ onlyNodes (netlistOf (now file)) row) × MarksOf few (netlistOf (now file)) row (now marks) ⌝ }
+    requires { ⌜ (nodes ≡ onlyNodes (netlistOf (now file)) row) × NamesMarked few (netlistOf (now file)) row (now marks) ⌝ }
     ensures { λ r. ⌜ acceptRefusal r ≡ refusalAt (rowQuestions namesEarlier (fieldsOf (now (file .entry))) row) row ⌝ }
-    ensures { λ r. ⌜ (rowQuestions namesEarlier (fieldsOf (now (file .entry))) row ≡ 0 → MarksOf few (netlistOf (now (file .entry))) (row + 1) (now (marks .exit))) ⌝ }
+    ensures { λ r. ⌜ (rowQuestions namesEarlier (fieldsOf (now (file .entry))) row ≡ 0 → NamesMarked few (netlistOf (now (file .entry))) (row + 1) (now (marks .exit))) ⌝ }
 {
     let tests = test_row(file, rows, row, nodes, fields);
     let place = row as u32;

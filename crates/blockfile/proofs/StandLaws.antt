@@ -9,12 +9,12 @@ use lib.Seq.{sets, getD-at}
 use Rattle.memory.specs.Fields.{byteAt}
 use Rattle.memory.proofs.TestLaws.{last-or}
 use Rattle.memory.proofs.FrameLaws.{kept-sets, sets-at}
-use Rattle.netlist.specs.Limits.{mostRows, foldResultBytes}
+use Rattle.netlist.specs.Limits.{mostFoldedRows, foldResultBytes}
 use Rattle.netlist.specs.Rows.{Row, constant, rowAt}
 use Rattle.netlist.specs.FileFormat.{rowOffset, rowBytes}
 use Rattle.blockfile.specs.RowsStand.{RowsStand}
 
-pub row-room : (m : ℕ) → m < mostRows → rowOffset m + 8 ≤ foldResultBytes
+pub row-room : (m : ℕ) → m < mostFoldedRows → rowOffset m + 8 ≤ foldResultBytes
 row-room m h = omega arith
 
 pub row-next : (i j : ℕ) → i < j → rowOffset i + 8 ≤ rowOffset j

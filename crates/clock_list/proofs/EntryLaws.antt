@@ -5,7 +5,7 @@ use mathlib.Core.Path.{_≡_}
 use mathlib.Core.List.{List}
 use native.Mathlib.Omega.{arith}
 use Rattle.memory.specs.Fields.{byteAt, u32At}
-use Rattle.lasso_finder.specs.WorkMap.{entryPlace, entryIn}
+use Rattle.ternary_step.specs.WorkMap.{entryPlace, entryIn}
 use Rattle.clock_list.specs.ClockCode.{clockOf}
 use Rattle.clock_list.specs.declared.Clock.{Clock}
 

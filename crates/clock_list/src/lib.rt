@@ -5,7 +5,7 @@ ghost use Prim.Native.Nat.{_<_, _≤_};
 ghost use lib.ListN.{length, set, drop};
 ghost use Rattle.memory.specs.Fields.{byteAt};
 ghost use Rattle.netlist.specs.Limits.{foldClockEntries};
-ghost use Rattle.lasso_finder.specs.WorkMap.{entryIn, entriesIn};
+ghost use Rattle.ternary_step.specs.WorkMap.{entryIn, entriesIn};
 ghost use Rattle.clock_list.specs.ClockCode.{clockOf, clocksOf};
 
 // A used generator: its register's label, its period, its values over the phases as bits, and how many of these are set.

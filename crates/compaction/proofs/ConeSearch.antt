@@ -12,7 +12,7 @@ use Rattle.memory.proofs.ListLaws.{tabulate-length, tabulate-at}
 use Rattle.netlist.specs.Rows.{Row, constant, rowAt}
 use Rattle.abstraction.specs.Compaction.{faninNodes, isConeRoot, isMarked, markAll, coneOfInfluence}
 use Rattle.abstraction.proofs.CompactionLaws.{AllMarked, ClosedUnderFanin, marked-lt}
-use Rattle.abstraction.proofs.ConeLaws.{MarksOf, markAll-keeps, markAll-marks, all-keep, markAll-within, cone-length, cone-closed, cone-root, cone-least}
+use Rattle.abstraction.proofs.ConeLaws.{MarksWithin, markAll-keeps, markAll-marks, all-keep, markAll-within, cone-length, cone-closed, cone-root, cone-least}
 use Rattle.netlist.specs.WellFormed.{EachBelow}
 use Rattle.compaction.specs.Compactable.{heldRow, heldRows, HeldInside}
 use Rattle.compaction.specs.Slots.{markAt, marksIn, foundAt, Found, Pushed, RootsMarked}
@@ -71,7 +71,7 @@ module _ (f : List ℕ) (n : ℕ) where
     pub visits : v ≤ t
     pub roots : (j : ℕ) → j < n → isConeRoot (heldRow f j) ≡ true → markAt w j ≡ true
     pub followed : HeldInside f n → (k : ℕ) → k < v → AllMarked (marksIn w n) (faninNodes (heldRow f (foundAt w k)))
-    pub sound : HeldInside f n → MarksOf (marksIn w n) (coneOfInfluence rows)
+    pub sound : HeldInside f n → MarksWithin (marksIn w n) (coneOfInfluence rows)
 
   in-range : (w : List ℕ) (j : ℕ) → isMarked (marksIn w n) j ≡ true → j < n
   in-range w j e = rw (tabulate-length n (markAt w)) at (marked-lt (marksIn w n) j e)
@@ -107,7 +107,7 @@ module _ (f : List ℕ) (n : ℕ) where
       here : (x < n) × (markAt w x ≡ true)
       here = R .found .marked v h
 
-      keeps : MarksOf (marksIn w n) (marksIn w′ n)
+      keeps : MarksWithin (marksIn w n) (marksIn w′ n)
       keeps j e = rw (P .marks) (markAll-keeps (marksIn w n) js j e)
 
       named : HeldInside f n → AllMarked (coneOfInfluence rows) js

@@ -24,7 +24,7 @@ use Rattle.blockfile.specs.RowCode.{fieldsIn, Small}
 use Rattle.blockfile.specs.RowsStand.{RowsStand}
 use Rattle.blockfile.proofs.StandLaws.{row-room, row-next, stand-more}
 use Rattle.compaction.specs.Compactable.{Compactable, heldRow, heldRows, HeldInside}
-use Rattle.compaction.specs.Slots.{slotAt, markAt, bitOf, Numbered}
+use Rattle.compaction.specs.Slots.{slotAt, markAt, markBit, Numbered}
 use Rattle.compaction.specs.Moves.{literalCount, renumberFields, renumberIn, moveRow, RowKept, Movable, MovedTo}
 use Rattle.compaction.proofs.KindLaws.{encode-map, map-same}
 use Rattle.compaction.proofs.SlotLaws.{bit-le}
@@ -86,8 +86,8 @@ module _ (f₀ f f′ w : List ℕ) (n i t t′ : ℕ) (h : i < n) (few : n ≤ 
     mark-is = go (isMarked m i) refl
       where
         go : (x : Bool) → isMarked m i ≡ x → markAt w i ≡ x
-        go true e = le-leb (2 ^ 15) (slotAt w i) (omega (arith, G .numbers i h, ap bitOf e))
-        go false e = lt-leb (2 ^ 15) (slotAt w i) (omega (arith, G .numbers i h, ap bitOf e, index-le m i))
+        go true e = le-leb (2 ^ 15) (slotAt w i) (omega (arith, G .numbers i h, ap markBit e))
+        go false e = lt-leb (2 ^ 15) (slotAt w i) (omega (arith, G .numbers i h, ap markBit e, index-le m i))
 
     renumber-is : (l : ℕ) → l / 2 < n → renumberIn w l ≡ renumberLiteral m l
     renumber-is l b =
@@ -133,7 +133,7 @@ module _ (f₀ f f′ w : List ℕ) (n i t t′ : ℕ) (h : i < n) (few : n ≤ 
         go false = subst (λ (xs : List Row). RowsStand xs f) (sym (append-nil (compactUpTo rs m i))) before
 
     moved-next : (t′ ≡ newIndex m (i + 1)) × RowsStand (compactUpTo rs m (i + 1)) f′
-    moved-next = (rw (add-one i) (omega (arith, K .count, M .moved rs m G .0, index-suc m i, ap bitOf mark-is)), stand-next)
+    moved-next = (rw (add-one i) (omega (arith, K .count, M .moved rs m G .0, index-suc m i, ap markBit mark-is)), stand-next)
 
   pub moving-next : Moving f₀ f′ w n (i + 1) t′
   moving-next = record { low = omega (arith, K .count, M .low, bit-le (markAt w i)); rest = rest-more; moved = moved-next }

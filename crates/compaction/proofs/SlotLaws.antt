@@ -23,7 +23,7 @@ use Rattle.memory.proofs.FrameLaws.{u16-kept, kept-sets, u16-back}
 use Rattle.netlist.specs.Limits.{mostFoldedRows, foldWorkBytes}
 use Rattle.abstraction.specs.Compaction.{isMarked, markAll, newIndex}
 use Rattle.abstraction.proofs.CompactionLaws.{index-none, index-suc, index-le}
-use Rattle.compaction.specs.Slots.{slotsStart, slotsEnd, slotAt, setSlot, markAt, marksIn, foundAt, RowMarked, RowListed, Found, Pushed, bitOf, numberOf, Numbered}
+use Rattle.compaction.specs.Slots.{slotsStart, slotsEnd, slotAt, setSlot, markAt, marksIn, foundAt, RowMarked, RowListed, Found, Pushed, markBit, newNumber, Numbered}
 
 -- ---- a slot
 
@@ -44,10 +44,10 @@ mark-yes w j h = le-leb (2 ^ 15) (slotAt w j) h
 pub mark-no : (w : List ℕ) (j : ℕ) → slotAt w j < 2 ^ 15 → markAt w j ≡ false
 mark-no w j h = lt-leb (2 ^ 15) (slotAt w j) h
 
-pub bit-is : (w : List ℕ) (j : ℕ) → slotAt w j < 2 ^ 16 → slotAt w j / 2 ^ 15 ≡ bitOf (markAt w j)
+pub bit-is : (w : List ℕ) (j : ℕ) → slotAt w j < 2 ^ 16 → slotAt w j / 2 ^ 15 ≡ markBit (markAt w j)
 bit-is w j h = go (markAt w j) refl
   where
-    go : (t : Bool) → leb (2 ^ 15) (slotAt w j) ≡ t → slotAt w j / 2 ^ 15 ≡ bitOf t
+    go : (t : Bool) → leb (2 ^ 15) (slotAt w j) ≡ t → slotAt w j / 2 ^ 15 ≡ markBit t
     go true e = omega (arith, leb-true (2 ^ 15) (slotAt w j) e)
     go false e = omega (arith, leb-false (2 ^ 15) (slotAt w j) e)
 
@@ -188,14 +188,14 @@ pushed-cons w w₁ w₂ n t t₁ t₂ j js P Q = record {
 
 -- ---- rows numbered
 
-pub bit-le : (t : Bool) → bitOf t ≤ 1
+pub bit-le : (t : Bool) → markBit t ≤ 1
 bit-le true = omega arith
 bit-le false = omega arith
 
 -- The slots before i have their numbers, and the others are as they were.
 pub record Numbering (w₀ w : List ℕ) (n i t : ℕ) : Type 0 where
   pub count : t ≡ newIndex (marksIn w₀ n) i
-  pub before : (j : ℕ) → j < i → slotAt w j ≡ numberOf (marksIn w₀ n) j
+  pub before : (j : ℕ) → j < i → slotAt w j ≡ newNumber (marksIn w₀ n) j
   pub after : (j : ℕ) → i ≤ j → slotAt w j ≡ slotAt w₀ j
 
 pub numbering-none : (w : List ℕ) (n : ℕ) → Numbering w w n 0 0
@@ -205,12 +205,12 @@ pub numbering-le : (w₀ w : List ℕ) (n i t : ℕ) → Numbering w₀ w n i t 
 numbering-le w₀ w n i t N = omega (arith, N .count, index-le (marksIn w₀ n) i)
 
 pub numbering-more : (w₀ w w′ : List ℕ) (n i t r : ℕ) → i < n → n ≤ mostFoldedRows → 2 * n ≤ length w → Numbering w₀ w n i t
-    → r ≡ t + bitOf (markAt w i) → w′ ≡ setSlot w i (t + 2 ^ 15 * bitOf (markAt w i)) → Numbering w₀ w′ n (i + 1) r
+    → r ≡ t + markBit (markAt w i) → w′ ≡ setSlot w i (t + 2 ^ 15 * markBit (markAt w i)) → Numbering w₀ w′ n (i + 1) r
 numbering-more w₀ w w′ n i t r h few room N er ew =
     let m = marksIn w₀ n in
-    let v = t + 2 ^ 15 * bitOf (markAt w i) in
+    let v = t + 2 ^ 15 * markBit (markAt w i) in
     let e : isMarked m i ≡ markAt w i = marked-in w₀ n i h ∙ ap (leb (2 ^ 15)) (sym (N .after i (omega arith))) in
-    let b : bitOf (isMarked m i) ≡ bitOf (markAt w i) = ap bitOf e in
+    let b : markBit (isMarked m i) ≡ markBit (markAt w i) = ap markBit e in
     let l = numbering-le w₀ w n i t N in
     record {
       count = rw add-one (omega (arith, index-suc m i, N .count));
@@ -225,9 +225,9 @@ numbering-done w₀ w n i t h N j l = N .before j (omega arith)
 
 -- A row's slot as the code numbers it.
 pub row-numbered : (w w′ : List ℕ) (i t v : ℕ) → (v ≡ slotAt w i) × (v < 2 ^ 16) → w′ ≡ setSlot w i (t + 2 ^ 15 * (v / 2 ^ 15))
-    → (t + v / 2 ^ 15 ≡ t + bitOf (markAt w i)) × (w′ ≡ setSlot w i (t + 2 ^ 15 * bitOf (markAt w i)))
+    → (t + v / 2 ^ 15 ≡ t + markBit (markAt w i)) × (w′ ≡ setSlot w i (t + 2 ^ 15 * markBit (markAt w i)))
 row-numbered w w′ i t v h e =
-    let b : v / 2 ^ 15 ≡ bitOf (markAt w i) = ap (λ x. x / 2 ^ 15) (h .0) ∙ bit-is w i (omega arith) in
+    let b : v / 2 ^ 15 ≡ markBit (markAt w i) = ap (λ x. x / 2 ^ 15) (h .0) ∙ bit-is w i (omega arith) in
     (ap (λ x. t + x) b, e ∙ ap (λ x. setSlot w i (t + 2 ^ 15 * x)) b)
 
 -- ---- the slots' place in the work memory

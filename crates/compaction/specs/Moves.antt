@@ -12,7 +12,7 @@ use Rattle.netlist.specs.FileFormat.{rowOffset, readFields, fieldBytes}
 use Rattle.abstraction.specs.Compaction.{newIndex, compactUpTo}
 use Rattle.blockfile.specs.RowsStand.{RowsStand}
 use Rattle.compaction.specs.Compactable.{Compactable}
-use Rattle.compaction.specs.Slots.{slotAt, markAt, bitOf, Numbered}
+use Rattle.compaction.specs.Slots.{slotAt, markAt, markBit, Numbered}
 
 -- How many literals a row of kind k has: its first fields.
 abbrev pub literalCount : ℕ → ℕ
@@ -35,7 +35,7 @@ moveRow f w i t = sets f (rowOffset t) (fieldBytes (renumberFields (renumberIn w
 -- The same if row i is marked, and how many rows then stand in front.
 pub record RowKept (f w : List ℕ) (i t : ℕ) (f′ : List ℕ) (t′ : ℕ) : Type 0 where
   pub bytes : f′ ≡ cond (markAt w i) (moveRow f w i t) f
-  pub count : t′ ≡ t + bitOf (markAt w i)
+  pub count : t′ ≡ t + markBit (markAt w i)
 
 -- What is asked of the rows rs in f and of the marks m whose numbers are in w.
 pub record Movable (f w : List ℕ) (n : ℕ) (rs : List Row) (m : List Bool) : Type 0 where

@@ -72,13 +72,13 @@ RootsMarked f w n = (j : ℕ) → j < n → markAt w j ≡ isConeRoot (heldRow f
 -- ---- marks and numbers
 
 -- A mark as a number.
-abbrev pub bitOf : Bool → ℕ
-bitOf t = cond t 1 0
+abbrev pub markBit : Bool → ℕ
+markBit t = cond t 1 0
 
 -- Row j's new number, with its mark in bit 15.
-abbrev pub numberOf : List Bool → ℕ → ℕ
-numberOf m j = newIndex m j + 2 ^ 15 * bitOf (isMarked m j)
+abbrev pub newNumber : List Bool → ℕ → ℕ
+newNumber m j = newIndex m j + 2 ^ 15 * markBit (isMarked m j)
 
 -- The slots have the numbers of these marks.
 abbrev pub Numbered : List ℕ → ℕ → List Bool → Type 0
-Numbered w n m = (j : ℕ) → j < n → slotAt w j ≡ numberOf m j
+Numbered w n m = (j : ℕ) → j < n → slotAt w j ≡ newNumber m j

@@ -30,7 +30,7 @@ ghost use Rattle.compaction.specs.Slots.{
   Found,
   Pushed,
   RootsMarked,
-  bitOf,
+  markBit,
   Numbered,
 };
 ghost use Rattle.compaction.specs.Moves.{
@@ -214,8 +214,8 @@ fn mark_cone(result: &[u8], slots: &mut [u8], rows: usize)
 // The row's slot gets its number beside its mark; answers the next number.
 fn number_row(slots: &mut [u8], row: usize, number: usize) -> usize
     requires { ⌜ (2 * row + 2 ≤ length (now slots)) × (number < 2 ^ 15) ⌝ }
-    ensures { λ r. ⌜ r ≡ number + bitOf (markAt (now (slots .entry)) row) ⌝ }
-    ensures { λ _. ⌜ now (slots .exit) ≡ setSlot (now (slots .entry)) row (number + 2 ^ 15 * bitOf (markAt (now (slots .entry)) row)) ⌝ }
+    ensures { λ r. ⌜ r ≡ number + markBit (markAt (now (slots .entry)) row) ⌝ }
+    ensures { λ _. ⌜ now (slots .exit) ≡ setSlot (now (slots .entry)) row (number + 2 ^ 15 * markBit (markAt (now (slots .entry)) row)) ⌝ }
 {
     let slot = slot_at(slots, row);
     let mark = slot / 32768;

@@ -15,9 +15,10 @@ use Rattle.memory.proofs.ListLaws.{first-is, first-none, first-found}
 use Rattle.netlist.specs.Limits.{mostPhases, mostOriginalRows, mostOriginalRegisters, foldResultBytes, foldWorkBytes, foldClockEntries}
 use Rattle.netlist.specs.Rows.{Row, RowFields, rowFromFields, decodeRow, rowAt, phaseOf, isRegister}
 use Rattle.netlist.specs.FileFormat.{readFields, netlistOf}
-use Rattle.questions.specs.Questions.{Refusal, noRefusal, question, itemQuestions, fileRefusal, phaseQuestion, originalRefusal, foldMemoryRight, Counts, countsOf, argumentQuestions}
+use Rattle.questions.specs.Questions.{Refusal, noRefusal, question, itemQuestions, fileRefusal, Counts, countsOf}
+use Rattle.fold_questions.specs.FoldQuestions.{phaseQuestion, originalRefusal, foldMemoryRight, argumentQuestions}
 use Rattle.questions.proofs.QuestionLaws.{list-next, all-yes, _then_, number-none, question-of, list-stop, question-no}
-use Rattle.questions.proofs.PlainWords.{phaseQuestion-iff}
+use Rattle.fold_questions.proofs.FoldAccepted.{phaseQuestion-iff}
 use Rattle.blockfile.specs.declared.Fields.{Fields}
 use Rattle.blockfile.specs.declared.count.Counts as code
 use Rattle.blockfile.specs.RowCode.{fieldsIn}

@@ -17,11 +17,12 @@ use Rattle.netlist.specs.FileFormat.{netlistOf, fileOf, blocksFor}
 use Rattle.netlist.proofs.FileLaws.{file-length}
 use Rattle.lasso.specs.LassoSearch.{Lasso, findLasso}
 use Rattle.abstraction.specs.Fold.{FoldAnswer, foldFromLasso, foldNetlist}
-use Rattle.questions.specs.Questions.{Refusal, noRefusal, firstRefusal, question, hasLasso, foldRefusal}
+use Rattle.questions.specs.Questions.{Refusal, noRefusal, firstRefusal, question}
+use Rattle.fold_questions.specs.FoldQuestions.{hasLasso, foldRefusal}
 use Rattle.questions.proofs.QuestionLaws.{list-none, list-next, list-stop}
 use Rattle.guarantees.specs.FoldGuarantee.{FoldGuarantee}
 use Rattle.guarantees.proofs.FoldPromise.{fold-guarantee}
-use Rattle.lasso_finder.proofs.ReadyLaws.{work-ready-of}
+use Rattle.ternary_step.proofs.ReadyLaws.{work-ready-of}
 use Rattle.fold_core.specs.FoldAnswers.{foldRefusalIn, foldingRefusal, numbersIn, foldAnswered, numbersOf, entriesOf, resultOf}
 use Rattle.fold_core.specs.FoldOutcome.{fileLeft, LeftFolded, CoreFolded}
 use Rattle.fold_core.specs.FoldParts.{earlyRefusal, askedRefusal, Questioned, FoldReady, foldingOf, FoldMade}

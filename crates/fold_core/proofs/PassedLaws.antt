@@ -18,21 +18,22 @@ use Rattle.lasso.proofs.PhaseCountLaws.{phases-pos, phases-le}
 use Rattle.lasso.proofs.ClockLaws.{used-le}
 use Rattle.abstraction.specs.Fold.{FoldAnswer, foldWith, foldFromLasso, foldNetlist}
 use Rattle.abstraction.proofs.FoldLaws.{fold-answers}
-use Rattle.questions.specs.Questions.{Refusal, noRefusal, namesEarlier, fileRefusal, originalRefusal, argumentQuestions}
+use Rattle.questions.specs.Questions.{Refusal, noRefusal, namesEarlier, fileRefusal}
+use Rattle.fold_questions.specs.FoldQuestions.{originalRefusal, argumentQuestions}
 use Rattle.questions.proofs.QuestionLaws.{NoneRefuses, all-none, number-none, question-none}
-use Rattle.questions.specs.FoldRefusalWords.{MemoryRight}
-use Rattle.questions.proofs.PlainWords.{foldMemoryRight-iff}
-use Rattle.questions.proofs.AcceptedFiles.{FileRight, OriginalRight, file-right, original-right}
+use Rattle.fold_questions.specs.FoldRefusalWords.{MemoryRight}
+use Rattle.fold_questions.proofs.FoldAccepted.{foldMemoryRight-iff, OriginalRight, original-right}
+use Rattle.questions.proofs.AcceptedFiles.{FileRight, file-right}
 use Rattle.blockfile.specs.Ready.{Ready}
-use Rattle.lasso_finder.specs.StateMap.{AnalysisReady}
-use Rattle.lasso_finder.specs.WorkMap.{entryIn, entriesIn}
-use Rattle.lasso_finder.specs.Outcome.{phasesOf, clocksOf, analysisOf, Analysed}
+use Rattle.ternary_step.specs.StateMap.{AnalysisReady}
+use Rattle.ternary_step.specs.WorkMap.{entryIn, entriesIn}
+use Rattle.lasso_finder.specs.Outcome.{phasesOf, analysedClocks, analysisOf, Analysed}
 use Rattle.lasso_finder.specs.declared.Analysis.{Analysis}
 use Rattle.lasso_finder.specs.declared.Analysis.the-variants as analysis
 use Rattle.lasso_finder.specs.declared.Clocks.{Clocks}
-use Rattle.lasso_finder.proofs.ReadyLaws.{analysis-ready}
-use Rattle.lasso_finder.proofs.EntryLaws.{entry-kept}
-use Rattle.fold.specs.UnrollMap.{Original, Room}
+use Rattle.ternary_step.proofs.ReadyLaws.{analysis-ready}
+use Rattle.clock_words.proofs.EntryLaws.{entry-kept}
+use Rattle.unrolling.specs.UnrollMap.{Original, Room}
 use Rattle.fold_core.specs.FoldAnswers.{numbersOf, entriesOf, resultOf}
 use Rattle.fold_core.specs.FoldParts.{earlyRefusal, FoldReady, foldingOf, FoldMade}
 use Rattle.fold_core.specs.FoldStages.{EntriesKept, FoldWritten, NumbersFit, numbersFrom}
@@ -72,7 +73,7 @@ module _ (file : List ℕ) (wish result work clocks : ℕ) where
 -- ---- the stages
 
 -- What the analysis answers says whether there is a lasso, and which.
-found-some : (rows : List Row) (wish : ℕ) (o : Option Lasso) (clocks : Clocks) → analysis.Found clocks ≡ analysisOf rows wish o → (z : Lasso) × (o ≡ some z) × (clocks ≡ clocksOf rows wish z)
+found-some : (rows : List Row) (wish : ℕ) (o : Option Lasso) (clocks : Clocks) → analysis.Found clocks ≡ analysisOf rows wish o → (z : Lasso) × (o ≡ some z) × (clocks ≡ analysedClocks rows wish z)
 found-some rows wish none clocks e = absurd (let q : _≡_ {A = ℕ} 0 1 = cc in omega arith)
 found-some rows wish (some z) clocks e = (z, refl, cc)
 
@@ -104,7 +105,7 @@ module _ {file : List ℕ} {n wish : ℕ} {result work : List ℕ} (R : FoldRead
 
     module _ {clocks : Clocks} (found : r ≡ analysis.Found clocks) where
       -- The lasso that was found, and the clocks by it.
-      lasso-of : (z : Lasso) × (findLasso rows ≡ some z) × (clocks ≡ clocksOf rows wish z)
+      lasso-of : (z : Lasso) × (findLasso rows ≡ some z) × (clocks ≡ analysedClocks rows wish z)
       lasso-of = found-some rows wish (findLasso rows) clocks (sym found ∙ A .answer)
 
       abbrev z : Lasso

@@ -19,9 +19,9 @@ use Rattle.abstraction.proofs.SizeBound.{fold-fits}
 use Rattle.blockfile.specs.RowsStand.{RowsStand}
 use Rattle.compaction.specs.Compactable.{Compactable}
 use Rattle.compaction.specs.Slots.{slotsStart, slotsEnd}
-use Rattle.lasso_finder.specs.WorkMap.{knownIn}
-use Rattle.fold.specs.UnrollMap.{Original, imagesEnd}
-use Rattle.fold.proofs.UnrollFacts.{netlist-few}
+use Rattle.ternary_step.specs.WorkMap.{knownIn}
+use Rattle.unrolling.specs.UnrollMap.{Original, imagesEnd}
+use Rattle.unrolling.proofs.UnrollFacts.{netlist-few}
 use Rattle.fold_core.specs.FoldStages.{KnownAs, FoldWritten}
 use Rattle.fold_core.proofs.UnrolledFits.{unrolled-compactable}
 

@@ -18,7 +18,7 @@ use Rattle.abstraction.proofs.UnrolledRun.{length-whole}
 use Rattle.abstraction.proofs.Provenance.{Sourced, phase-before, unroll-named, outputs-named}
 use Rattle.abstraction.proofs.FoldedRun.{patch-alike, whole-fanin, whole, made, ordered, whole-next}
 use Rattle.compaction.specs.Compactable.{Compactable}
-use Rattle.fold.proofs.UnrollFacts.{netlist-few}
+use Rattle.unrolling.proofs.UnrollFacts.{netlist-few}
 
 -- Label and phase are in range.
 abbrev NameFits : Row → Type 0

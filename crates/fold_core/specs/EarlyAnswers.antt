@@ -7,7 +7,8 @@ use mathlib.Core.Bool.{Bool}
 use mathlib.Core.List.{List}
 use lib.Dec.{ltb}
 use Rattle.netlist.specs.Rows.{Row}
-use Rattle.questions.specs.Questions.{Refusal, firstRefusal, phaseQuestion}
+use Rattle.questions.specs.Questions.{Refusal, firstRefusal}
+use Rattle.fold_questions.specs.FoldQuestions.{phaseQuestion}
 use Rattle.fold_core.specs.FoldParts.{askedRefusal}
 use Rattle.fold_core.specs.declared.early.Asked.{Asked}
 use Rattle.fold_core.specs.declared.early.Asked.the-variants.{Passed}

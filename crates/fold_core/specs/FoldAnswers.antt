@@ -11,7 +11,8 @@ use Rattle.netlist.specs.Rows.{Row}
 use Rattle.netlist.specs.FileFormat.{netlistOf, fileOf}
 use Rattle.lasso.specs.ClockEntries.{ClockEntry}
 use Rattle.abstraction.specs.Fold.{FoldAnswer, foldNetlist}
-use Rattle.questions.specs.Questions.{Refusal, noRefusal, foldRefusal}
+use Rattle.questions.specs.Questions.{Refusal, noRefusal}
+use Rattle.fold_questions.specs.FoldQuestions.{foldRefusal}
 use Rattle.accept.specs.Refusals.{refusalIn}
 use Rattle.fold_core.specs.declared.FoldRefusal.{FoldRefusal}
 use Rattle.fold_core.specs.declared.FoldRefusal.the-variants.{File, Rows, Registers, Phase, Wish, Memory, NoLasso}

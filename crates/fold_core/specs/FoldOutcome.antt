@@ -8,9 +8,10 @@ use lib.ListN.{length, take}
 use Rattle.netlist.specs.Limits.{foldClockEntries}
 use Rattle.netlist.specs.FileFormat.{blocksFor, netlistOf}
 use Rattle.abstraction.specs.SameBehaviour.{SameBehaviour, StandsFor}
-use Rattle.questions.specs.Questions.{noRefusal, fileRefusal, foldRefusal}
+use Rattle.questions.specs.Questions.{noRefusal, fileRefusal}
+use Rattle.fold_questions.specs.FoldQuestions.{foldRefusal}
 use Rattle.guarantees.specs.FoldGuarantee.{FoldGuarantee}
-use Rattle.lasso_finder.specs.WorkMap.{entriesIn}
+use Rattle.ternary_step.specs.WorkMap.{entriesIn}
 use Rattle.fold_core.specs.FoldAnswers.{foldingRefusal, numbersIn, usedIn, foldAnswered, numbersOf, entriesOf, resultOf}
 use Rattle.fold_core.specs.declared.Folding.{Folding}
 

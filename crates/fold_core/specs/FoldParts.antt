@@ -8,9 +8,10 @@ use lib.ListN.{length}
 use Rattle.netlist.specs.Limits.{foldClockEntries}
 use Rattle.netlist.specs.FileFormat.{netlistOf}
 use Rattle.abstraction.specs.Fold.{FoldAnswer, foldNetlist}
-use Rattle.questions.specs.Questions.{Refusal, noRefusal, firstRefusal, fileRefusal, originalRefusal, argumentQuestions}
-use Rattle.lasso_finder.specs.WorkMap.{entriesIn}
-use Rattle.lasso_finder.specs.Outcome.{WorkReady}
+use Rattle.questions.specs.Questions.{Refusal, noRefusal, firstRefusal, fileRefusal}
+use Rattle.fold_questions.specs.FoldQuestions.{originalRefusal, argumentQuestions}
+use Rattle.ternary_step.specs.WorkMap.{entriesIn}
+use Rattle.ternary_step.specs.StateMap.{ClearedWork}
 use Rattle.fold_core.specs.FoldAnswers.{foldRefusalIn, usedIn, numbersOf, entriesOf, resultOf}
 use Rattle.fold_core.specs.declared.early.Asked.{Asked}
 use Rattle.fold_core.specs.declared.early.Asked.the-variants.{Passed, Stopped}
@@ -40,7 +41,7 @@ pub record FoldReady (file : List ℕ) (n wish : ℕ) (result work : List ℕ) :
   pub clocks : ℕ
   pub passed : earlyRefusal file wish (length result) (length work) clocks ≡ noRefusal
   pub rows : n ≡ length (netlistOf file)
-  pub work-ready : WorkReady work
+  pub work-ready : ClearedWork work
 
 -- The answer: refusal 16, or the numbers of the fold.
 abbrev pub foldingOf : Option FoldAnswer → Folding

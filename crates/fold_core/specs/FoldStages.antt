@@ -10,9 +10,9 @@ use Rattle.ternary.specs.Ternary.{Ternary}
 use Rattle.netlist.specs.Limits.{mostPhases, mostOriginalRows, mostFoldedRows, foldClockEntries, lastState}
 use Rattle.netlist.specs.Rows.{Row}
 use Rattle.abstraction.specs.Fold.{foldWith}
-use Rattle.lasso_finder.specs.WorkMap.{knownIn}
+use Rattle.ternary_step.specs.WorkMap.{knownIn}
 use Rattle.lasso_finder.specs.declared.Clocks.{Clocks}
-use Rattle.fold.specs.UnrollMap.{imagesEnd}
+use Rattle.unrolling.specs.UnrollMap.{imagesEnd}
 use Rattle.compaction.specs.Slots.{slotsStart}
 use Rattle.fold_core.specs.FoldAnswers.{fileIn}
 use Rattle.fold_core.specs.declared.FoldNumbers.{FoldNumbers}

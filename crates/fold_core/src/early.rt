@@ -7,7 +7,7 @@ ghost use Rattle.memory.specs.Lists.{firstFrom};
 ghost use Rattle.netlist.specs.Limits.{mostRows};
 ghost use Rattle.netlist.specs.Rows.{decodeRow, phaseOf};
 ghost use Rattle.netlist.specs.FileFormat.{rowOffset, readFields, netlistOf};
-ghost use Rattle.questions.specs.Questions.{originalRefusal, argumentQuestions};
+ghost use Rattle.fold_questions.specs.FoldQuestions.{originalRefusal, argumentQuestions};
 ghost use Rattle.blockfile.specs.Ready.{Ready};
 ghost use Rattle.fold_core.specs.EarlyAnswers.{hasPhase, AnswersTo};
 ghost use Rattle.fold_core.specs.FoldParts.{Questioned};

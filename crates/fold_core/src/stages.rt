@@ -4,7 +4,7 @@ ghost use mathlib.Core.Path.{_≡_};
 ghost use lib.ListN.{length};
 ghost use Rattle.netlist.specs.Limits.{mostPhases};
 ghost use Rattle.netlist.specs.FileFormat.{netlistOf};
-ghost use Rattle.fold.specs.UnrollMap.{Original, Room};
+ghost use Rattle.unrolling.specs.UnrollMap.{Original, Room};
 ghost use Rattle.fold_core.specs.FoldParts.{FoldReady, FoldMade};
 ghost use Rattle.fold_core.specs.FoldStages.{FoldWritten, NumbersFit, numbersFrom};
 use crate::FoldNumbers;
@@ -19,7 +19,7 @@ fn write_fold(file: &[u8], rows: usize, phases: usize, result: &mut [u8], work: 
     requires { ⌜ Room (now result) (now work) ⌝ }
     ensures { λ r. ⌜ FoldWritten (netlistOf (now (file .entry))) phases (now (result .entry)) (now (result .exit)) (now (work .entry)) (now (work .exit)) r ⌝ }
 {
-    let made = fold::unroll::unroll(file, rows, phases, result, work);
+    let made = unrolling::unroll::unroll(file, rows, phases, result, work);
     let kept = compaction::compact_rows(result, work, made);
     blockfile::writer::write_file(result, kept);
     kept

@@ -9,32 +9,32 @@ use borrow.Author.Tests.{eq-eqb, ne-eqb}
 use Rattle.netlist.specs.Rows.{muxGate}
 use Rattle.abstraction.specs.GateMaking.{complement, newRow, makeAnd, makeXor, makeMux}
 use Rattle.gates.specs.declared.MadeImage.{MadeImage}
-use Rattle.gates.specs.declared.MadeImage.the-variants.{Kept, Fresh}
+use Rattle.gates.specs.declared.MadeImage.the-variants.{Existing, NewRow}
 use Rattle.gates.specs.ImageCode.{imageCode, pairCode}
 
 -- ---- a pair of operands
 
 module _ (k a b n : ℕ) where
-  pub pair-less : a < b → Fresh (record { kind = k; reset = 0; a = a; b = b; c = 0 }) n ≡ pairCode k a b n
+  pub pair-less : a < b → NewRow (record { kind = k; reset = 0; a = a; b = b; c = 0 }) n ≡ pairCode k a b n
   pair-less h = let e : min a b ≡ a = omega arith in let f : max a b ≡ b = omega arith in rw (e, f)
 
-  pub pair-more : b ≤ a → Fresh (record { kind = k; reset = 0; a = b; b = a; c = 0 }) n ≡ pairCode k a b n
+  pub pair-more : b ≤ a → NewRow (record { kind = k; reset = 0; a = b; b = a; c = 0 }) n ≡ pairCode k a b n
   pair-more h = let e : min a b ≡ b = omega arith in let f : max a b ≡ a = omega arith in rw (e, f)
 
 -- ---- AND
 
 module _ (a b : ℕ) where
-  pub and-first-false : a ≡ 0 → Kept 0 ≡ imageCode (makeAnd a b)
+  pub and-first-false : a ≡ 0 → Existing 0 ≡ imageCode (makeAnd a b)
   unfolding makeAnd
   and-first-false e = simp (eq-eqb a 0 e)
 
   module _ (n1 : a ≡ 0 → ⊥) where
-    pub and-second-false : b ≡ 0 → Kept 0 ≡ imageCode (makeAnd a b)
+    pub and-second-false : b ≡ 0 → Existing 0 ≡ imageCode (makeAnd a b)
     unfolding makeAnd
     and-second-false e = simp (ne-eqb a 0 n1, eq-eqb b 0 e)
 
     module _ (n2 : b ≡ 0 → ⊥) (o : ℕ) (q : o ≡ complement b) where
-      pub and-inverses : a ≡ o → Kept 0 ≡ imageCode (makeAnd a b)
+      pub and-inverses : a ≡ o → Existing 0 ≡ imageCode (makeAnd a b)
       unfolding makeAnd
       and-inverses e = simp (ne-eqb a 0 n1, ne-eqb b 0 n2, eq-eqb a (complement b) (e ∙ q))
 
@@ -42,17 +42,17 @@ module _ (a b : ℕ) where
         apart : eqb a (complement b) ≡ false
         apart = ne-eqb a (complement b) (λ e. n3 (e ∙ sym q))
 
-        pub and-first-true : a ≡ 1 → Kept b ≡ imageCode (makeAnd a b)
+        pub and-first-true : a ≡ 1 → Existing b ≡ imageCode (makeAnd a b)
         unfolding makeAnd
         and-first-true e = simp (ne-eqb a 0 n1, ne-eqb b 0 n2, apart, eq-eqb a 1 e)
 
         module _ (n4 : a ≡ 1 → ⊥) where
-          pub and-second-true : b ≡ 1 → Kept a ≡ imageCode (makeAnd a b)
+          pub and-second-true : b ≡ 1 → Existing a ≡ imageCode (makeAnd a b)
           unfolding makeAnd
           and-second-true e = simp (ne-eqb a 0 n1, ne-eqb b 0 n2, apart, ne-eqb a 1 n4, eq-eqb b 1 e)
 
           module _ (n5 : b ≡ 1 → ⊥) where
-            pub and-equal : a ≡ b → Kept a ≡ imageCode (makeAnd a b)
+            pub and-equal : a ≡ b → Existing a ≡ imageCode (makeAnd a b)
             unfolding makeAnd
             and-equal e = simp (ne-eqb a 0 n1, ne-eqb b 0 n2, apart, ne-eqb a 1 n4, ne-eqb b 1 n5, eq-eqb a b e)
 
@@ -63,12 +63,12 @@ module _ (a b : ℕ) where
 -- ---- XOR
 
 module _ (a b : ℕ) where
-  pub xor-equal : a ≡ b → Kept 0 ≡ imageCode (makeXor a b)
+  pub xor-equal : a ≡ b → Existing 0 ≡ imageCode (makeXor a b)
   unfolding makeXor
   xor-equal e = simp (eq-eqb a b e)
 
   module _ (n1 : a ≡ b → ⊥) (o : ℕ) (q : o ≡ complement b) where
-    pub xor-inverses : a ≡ o → Kept 1 ≡ imageCode (makeXor a b)
+    pub xor-inverses : a ≡ o → Existing 1 ≡ imageCode (makeXor a b)
     unfolding makeXor
     xor-inverses e = simp (ne-eqb a b n1, eq-eqb a (complement b) (e ∙ q))
 
@@ -76,22 +76,22 @@ module _ (a b : ℕ) where
       no-inverses : eqb a (complement b) ≡ false
       no-inverses = ne-eqb a (complement b) (λ e. n2 (e ∙ sym q))
 
-      pub xor-first-false : a ≡ 0 → Kept b ≡ imageCode (makeXor a b)
+      pub xor-first-false : a ≡ 0 → Existing b ≡ imageCode (makeXor a b)
       unfolding makeXor
       xor-first-false e = simp (ne-eqb a b n1, no-inverses, eq-eqb a 0 e)
 
       module _ (n3 : a ≡ 0 → ⊥) where
-        pub xor-second-false : b ≡ 0 → Kept a ≡ imageCode (makeXor a b)
+        pub xor-second-false : b ≡ 0 → Existing a ≡ imageCode (makeXor a b)
         unfolding makeXor
         xor-second-false e = simp (ne-eqb a b n1, no-inverses, ne-eqb a 0 n3, eq-eqb b 0 e)
 
         module _ (n4 : b ≡ 0 → ⊥) where
-          pub xor-first-true : (p : ℕ) → a ≡ 1 → p ≡ complement b → Kept p ≡ imageCode (makeXor a b)
+          pub xor-first-true : (p : ℕ) → a ≡ 1 → p ≡ complement b → Existing p ≡ imageCode (makeXor a b)
           unfolding makeXor
           xor-first-true p e f = simp (f, ne-eqb a b n1, no-inverses, ne-eqb a 0 n3, ne-eqb b 0 n4, eq-eqb a 1 e)
 
           module _ (n5 : a ≡ 1 → ⊥) where
-            pub xor-second-true : (p : ℕ) → b ≡ 1 → p ≡ complement a → Kept p ≡ imageCode (makeXor a b)
+            pub xor-second-true : (p : ℕ) → b ≡ 1 → p ≡ complement a → Existing p ≡ imageCode (makeXor a b)
             unfolding makeXor
             xor-second-true p e f = simp (f, ne-eqb a b n1, no-inverses, ne-eqb a 0 n3, ne-eqb b 0 n4, ne-eqb a 1 n5, eq-eqb b 1 e)
 
@@ -104,17 +104,17 @@ module _ (a b : ℕ) where
 -- ---- MUX
 
 module _ (a b c : ℕ) where
-  pub mux-low : a ≡ 0 → Kept c ≡ imageCode (makeMux a b c)
+  pub mux-low : a ≡ 0 → Existing c ≡ imageCode (makeMux a b c)
   unfolding makeMux
   mux-low e = simp (eq-eqb a 0 e)
 
   module _ (n1 : a ≡ 0 → ⊥) where
-    pub mux-high : a ≡ 1 → Kept b ≡ imageCode (makeMux a b c)
+    pub mux-high : a ≡ 1 → Existing b ≡ imageCode (makeMux a b c)
     unfolding makeMux
     mux-high e = simp (ne-eqb a 0 n1, eq-eqb a 1 e)
 
     module _ (n2 : a ≡ 1 → ⊥) where
-      pub mux-equal : b ≡ c → Kept b ≡ imageCode (makeMux a b c)
+      pub mux-equal : b ≡ c → Existing b ≡ imageCode (makeMux a b c)
       unfolding makeMux
       mux-equal e = simp (ne-eqb a 0 n1, ne-eqb a 1 n2, eq-eqb b c e)
 

@@ -15,8 +15,8 @@ pub struct MadeRow {
 
 // An image: a literal that is there, or a new row, inverted if the number is 1.
 pub enum MadeImage {
-    Kept(u16),
-    Fresh(MadeRow, u8),
+    Existing(u16),
+    NewRow(MadeRow, u8),
 }
 
 // The inverse of a literal.
@@ -31,7 +31,7 @@ fn pair_gate(kind: u8, a: u16, b: u16, inverted: u8) -> MadeImage
     ensures { λ r. ⌜ r ≡ pairCode kind a b inverted ⌝ }
 {
     if a < b {
-        MadeImage::Fresh(
+        MadeImage::NewRow(
             MadeRow {
                 kind,
                 reset: 0,
@@ -42,7 +42,7 @@ fn pair_gate(kind: u8, a: u16, b: u16, inverted: u8) -> MadeImage
             inverted,
         )
     } else {
-        MadeImage::Fresh(
+        MadeImage::NewRow(
             MadeRow {
                 kind,
                 reset: 0,
@@ -59,23 +59,23 @@ pub fn make_and(a: u16, b: u16) -> MadeImage
     ensures { λ r. ⌜ r ≡ imageCode (makeAnd a b) ⌝ }
 {
     if a == 0 {
-        return MadeImage::Kept(0);
+        return MadeImage::Existing(0);
     }
     if b == 0 {
-        return MadeImage::Kept(0);
+        return MadeImage::Existing(0);
     }
     if a == inverse(b) {
         let never = 0;
-        return MadeImage::Kept(never);
+        return MadeImage::Existing(never);
     }
     if a == 1 {
-        return MadeImage::Kept(b);
+        return MadeImage::Existing(b);
     }
     if b == 1 {
-        return MadeImage::Kept(a);
+        return MadeImage::Existing(a);
     }
     if a == b {
-        return MadeImage::Kept(a);
+        return MadeImage::Existing(a);
     }
     pair_gate(3, a, b, 0)
 }
@@ -84,22 +84,22 @@ pub fn make_xor(a: u16, b: u16) -> MadeImage
     ensures { λ r. ⌜ r ≡ imageCode (makeXor a b) ⌝ }
 {
     if a == b {
-        return MadeImage::Kept(0);
+        return MadeImage::Existing(0);
     }
     if a == inverse(b) {
-        return MadeImage::Kept(1);
+        return MadeImage::Existing(1);
     }
     if a == 0 {
-        return MadeImage::Kept(b);
+        return MadeImage::Existing(b);
     }
     if b == 0 {
-        return MadeImage::Kept(a);
+        return MadeImage::Existing(a);
     }
     if a == 1 {
-        return MadeImage::Kept(inverse(b));
+        return MadeImage::Existing(inverse(b));
     }
     if b == 1 {
-        return MadeImage::Kept(inverse(a));
+        return MadeImage::Existing(inverse(a));
     }
     let inverted = ((a % 2 + b % 2) % 2) as u8;
     pair_gate(4, 2 * (a / 2), 2 * (b / 2), inverted)
@@ -109,7 +109,7 @@ pub fn make_xor(a: u16, b: u16) -> MadeImage
 fn mux_gate(a: u16, b: u16, c: u16) -> MadeImage
     ensures { λ r. ⌜ r ≡ imageCode (newRow (muxGate a b c) 0) ⌝ }
 {
-    MadeImage::Fresh(
+    MadeImage::NewRow(
         MadeRow {
             kind: 5,
             reset: 0,
@@ -126,13 +126,13 @@ pub fn make_mux(a: u16, b: u16, c: u16) -> MadeImage
     ensures { λ r. ⌜ r ≡ imageCode (makeMux a b c) ⌝ }
 {
     if a == 0 {
-        return MadeImage::Kept(c);
+        return MadeImage::Existing(c);
     }
     if a == 1 {
-        return MadeImage::Kept(b);
+        return MadeImage::Existing(b);
     }
     if b == c {
-        return MadeImage::Kept(b);
+        return MadeImage::Existing(b);
     }
     if a % 2 == 0 {
         return mux_gate(a, b, c);

@@ -13,11 +13,13 @@ use Rattle.netlist.proofs.RowLaws.{unnamed}
 use Rattle.netlist.proofs.FileLaws.{file-length, file-labels}
 use Rattle.abstraction.specs.Fold.{FoldAnswer, foldFromLasso}
 use Rattle.abstraction.proofs.FoldLaws.{AnswerRight, fold-answers, answer-right}
-use Rattle.questions.specs.Questions.{noRefusal, foldRefusal}
-use Rattle.questions.proofs.AcceptedFiles.{fold-right, rows-accepted, file-checked}
-use Rattle.guarantees.specs.RoundTrips.{Writable}
+use Rattle.questions.specs.Questions.{noRefusal}
+use Rattle.fold_questions.specs.FoldQuestions.{foldRefusal}
+use Rattle.questions.proofs.AcceptedFiles.{file-checked}
+use Rattle.fold_questions.proofs.FoldAccepted.{fold-right, rows-accepted}
+use Rattle.questions.specs.RoundTrips.{Writable}
 use Rattle.guarantees.specs.FoldGuarantee.{FoldGuarantee}
-use Rattle.guarantees.proofs.WriteThenRead.{writable-read, writable-accepted, writable-bytes}
+use Rattle.questions.proofs.WriteThenRead.{writable-read, writable-accepted, writable-bytes}
 use Rattle.guarantees.proofs.AcceptedResult.{shape-passes}
 
 module _ (rows : List Row) (wish : ℕ) (answer : FoldAnswer) (right : AnswerRight rows wish answer) (labels : (x : ℕ) → x < length rows → labelOf (rowAt rows x) < 2 ^ 16) where

@@ -6,7 +6,7 @@ use lib.ListN.{take, drop, replicate}
 use Rattle.memory.specs.Lists.{tabulate}
 use Rattle.ternary.specs.Ternary.{Ternary}
 use Rattle.netlist.specs.Rows.{Row, constant, input, register, muxGate, output}
-use Rattle.netlist.specs.Simulation.{ternaryState}
+use Rattle.lasso.specs.TernaryRun.{ternaryState}
 use Rattle.abstraction.specs.Fold.{FoldAnswer}
 
 -- The 508 bytes before the check of one block that says it has one row, all zero; and the block with its check 4,294,901,757.

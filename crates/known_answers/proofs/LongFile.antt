@@ -15,8 +15,8 @@ use Rattle.netlist.proofs.FileLaws.{file-length}
 use Rattle.netlist.specs.WellFormed.{ResetIn, NamesNode, OnLiterals}
 use Rattle.questions.specs.Questions.{noRefusal, fileRefusal}
 use Rattle.abstraction.proofs.ResultShape.{ResultShape}
-use Rattle.guarantees.specs.RoundTrips.{Writable}
-use Rattle.guarantees.proofs.WriteThenRead.{writable-accepted}
+use Rattle.questions.specs.RoundTrips.{Writable}
+use Rattle.questions.proofs.WriteThenRead.{writable-accepted}
 use Rattle.guarantees.proofs.AcceptedResult.{shape-passes}
 
 -- The constant, n gates and an output.

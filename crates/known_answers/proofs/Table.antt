@@ -19,7 +19,8 @@ use Rattle.abstraction.specs.GateMaking.{existing, newRow, makeAnd, makeXor, ma
 use Rattle.abstraction.specs.Unrolling.{unrollPhase, unrollPhases, phaseOutputs, unrolledNetlist}
 use Rattle.abstraction.specs.Compaction.{markSweep, markFixpoint, coneOfInfluence, newIndex, compactUpTo, compact}
 use Rattle.abstraction.specs.Fold.{foldWith, foldFromLasso, foldNetlist}
-use Rattle.questions.specs.Questions.{noRefusal, lengthRight, blockQuestions, rowQuestions, rowsRefusal, fileRefusalWith, fileRefusal, originalRefusal, foldRefusal}
+use Rattle.questions.specs.Questions.{noRefusal, lengthRight, blockQuestions, rowQuestions, rowsRefusal, fileRefusalWith, fileRefusal}
+use Rattle.fold_questions.specs.FoldQuestions.{originalRefusal, foldRefusal}
 use Rattle.known_answers.proofs.Examples.{zeroBody, zeroBlock, wire, rise, figure2, figure2States, ring, ringFold, sample, sampleFold}
 use Rattle.known_answers.proofs.LongFile.{longest, longest-length, longest-accepted}
 

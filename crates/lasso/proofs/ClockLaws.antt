@@ -21,9 +21,9 @@ use Rattle.lasso.specs.LassoSearch.{Lasso}
 use Rattle.lasso.specs.Generators.{periodOf, periodsOf, isUsed, usedCount, stateValue, clockValue, IsPeriod}
 use Rattle.lasso.proofs.LassoLaws.{IsLasso}
 use Rattle.lasso.proofs.GeneratorLaws.{period-other, generator-known, period-is, period-unique}
-use Rattle.lasso.specs.ClockEntries.{ClockEntry, bitOf, clockWord, bitsSet, clockEntry, clockEntries, entryAt, EntryWords, ClockListWords}
+use Rattle.lasso.specs.ClockEntries.{ClockEntry, valueBit, clockWord, bitsSet, clockEntry, clockEntries, entryAt, EntryWords, ClockListWords}
 
-bit-lt : (v : Ternary) → bitOf v < 2
+bit-lt : (v : Ternary) → valueBit v < 2
 bit-lt lo = omega arith
 bit-lt hi = omega arith
 bit-lt X = omega arith
@@ -35,7 +35,7 @@ module _ (f : ℕ → Ternary) where
   pub word-lt : (n : ℕ) → clockWord f n < 2 ^ n
   unfolding clockWord
   word-lt zero = omega arith
-  word-lt (suc n) = omega (arith, word-lt n, pow-suc 2 n, bit-small (bitOf (f n)) n (bit-lt (f n)))
+  word-lt (suc n) = omega (arith, word-lt n, pow-suc 2 n, bit-small (valueBit (f n)) n (bit-lt (f n)))
 
   -- A bit above bit k does not change bit k.
   higher-bit : (w b k n : ℕ) → k < n → (w + b * 2 ^ n) / 2 ^ k % 2 ≡ w / 2 ^ k % 2
@@ -51,15 +51,15 @@ module _ (f : ℕ → Ternary) where
       ∙ add-mul-mod-self-right (w / 2 ^ k) (b * 2 ^ d) 2
 
   -- Bit k of the word is the value at phase k.
-  pub word-bit : (n k : ℕ) → k < n → clockWord f n / 2 ^ k % 2 ≡ bitOf (f k)
+  pub word-bit : (n k : ℕ) → k < n → clockWord f n / 2 ^ k % 2 ≡ valueBit (f k)
   unfolding clockWord
   word-bit zero k h = absurd (omega arith)
   word-bit (suc n) k h =
       last-or k n h
-      (λ l. higher-bit (clockWord f n) (bitOf (f n)) k n l ∙ word-bit n k l)
+      (λ l. higher-bit (clockWord f n) (valueBit (f n)) k n l ∙ word-bit n k l)
       (λ e. rw e
-      (ap (λ (x : ℕ). x / 2 ^ n % 2) (add-comm (clockWord f n) (bitOf (f n) * 2 ^ n))
-      ∙ ap (λ (x : ℕ). x % 2) (digits-div (bitOf (f n)) (word-lt n)) ∙ mod-eq-of-lt (bit-lt (f n))))
+      (ap (λ (x : ℕ). x / 2 ^ n % 2) (add-comm (clockWord f n) (valueBit (f n) * 2 ^ n))
+      ∙ ap (λ (x : ℕ). x % 2) (digits-div (valueBit (f n)) (word-lt n)) ∙ mod-eq-of-lt (bit-lt (f n))))
 
   -- How many of phases 0 to n - 1 have the value 1.
   abbrev pub highPhases : ℕ → ℕ
@@ -164,7 +164,7 @@ module _ (rows : List Row) (z : Lasso) (is : IsLasso rows z) (N : ℕ) where
         period = w;
         divides = eqb-true (N % p) 0 (b .1);
         known = λ k l. generator-known rows z is i p pos (w .generates) (k % p);
-        bits = λ k l. word-bit f N k l ∙ ap bitOf (value k);
+        bits = λ k l. word-bit f N k l ∙ ap valueBit (value k);
         no-other-bit = word-lt f N;
         ones = ones-high f N ∙ ap (countIf (λ v. equal3 v hi)) (tabulate-cong N f (λ k. stateValue rows i (k % p)) (λ k l. value k));
       }

@@ -16,8 +16,9 @@ use Rattle.memory.proofs.ListLaws.{allBelow-at, first-is, first-least, tabulate
 use Rattle.ternary.specs.Ternary.{Ternary, isKnown}
 use Rattle.ternary.proofs.RuleLaws.{Covers, any, equal3-true}
 use Rattle.netlist.specs.Rows.{Row, rowAt, isRegister}
-use Rattle.netlist.specs.Simulation.{boolLogic, ternaryLogic, valueAt, runState}
-use Rattle.netlist.proofs.TernarySoundness.{state-covers}
+use Rattle.netlist.specs.Simulation.{boolLogic, valueAt, runState}
+use Rattle.lasso.specs.TernaryRun.{ternaryLogic}
+use Rattle.lasso.proofs.TernarySoundness.{state-covers}
 use Rattle.lasso.specs.LassoSearch.{Lasso}
 use Rattle.lasso.specs.Generators.{stateValue, isGenerator, periodOf, periodsOf, clockValue, IsPeriod}
 use Rattle.lasso.proofs.LassoLaws.{IsLasso, lasso-repeats}

@@ -18,7 +18,8 @@ use Rattle.ternary.specs.Ternary.{Ternary, X, equal3}
 use Rattle.ternary.proofs.RuleLaws.{equal3-true, equal3-same}
 use Rattle.netlist.specs.Limits.{lastState}
 use Rattle.netlist.specs.Rows.{Row, constant, input, register, andGate, xorGate, muxGate, output, isRegister}
-use Rattle.netlist.specs.Simulation.{ternaryLogic, valueAt, resetValue, nextValue, stepValues, runState, ternaryState}
+use Rattle.netlist.specs.Simulation.{valueAt, resetValue, nextValue, stepValues, runState}
+use Rattle.lasso.specs.TernaryRun.{ternaryLogic, ternaryState}
 use Rattle.lasso.specs.LassoSearch.{equalStates, isRepeat, earlierEqual, firstRepeat, Lasso, findLasso, AllDiffer, FirstRepeat}
 
 pub states-equal : (s s′ : List Ternary) → equalStates s s′ ≡ true → s ≡ s′

@@ -13,13 +13,13 @@ use Rattle.lasso.specs.LassoSearch.{Lasso}
 use Rattle.lasso.specs.Generators.{stateValue, isUsed, clockValue, IsPeriod}
 
 -- 1 for the value 1, and 0 for 0 and X.
-abbrev pub bitOf : Ternary → ℕ
-bitOf v = cond (equal3 v hi) 1 0
+abbrev pub valueBit : Ternary → ℕ
+valueBit v = cond (equal3 v hi) 1 0
 
 -- Bit k of the word is the value at phase k, k below n.
 unfoldable pub clockWord : (ℕ → Ternary) → ℕ → ℕ
 clockWord f zero = 0
-clockWord f (suc k) = clockWord f k + bitOf (f k) * 2 ^ k
+clockWord f (suc k) = clockWord f k + valueBit (f k) * 2 ^ k
 
 -- How many of a word's lowest n bits are set.
 unfoldable pub bitsSet : ℕ → ℕ → ℕ
@@ -51,7 +51,7 @@ pub record EntryWords (rows : List Row) (z : Lasso) (N i : ℕ) (e : ClockEntry)
   pub period : IsPeriod rows z i (e .period)
   pub divides : N % e .period ≡ 0
   pub known : (k : ℕ) → k < N → isKnown (stateValue rows i (k % e .period)) ≡ true
-  pub bits : (k : ℕ) → k < N → e .word / 2 ^ k % 2 ≡ bitOf (stateValue rows i (k % e .period))
+  pub bits : (k : ℕ) → k < N → e .word / 2 ^ k % 2 ≡ valueBit (stateValue rows i (k % e .period))
   pub no-other-bit : e .word < 2 ^ N
   pub ones : e .ones ≡ countIf (λ v. equal3 v hi) (tabulate N (λ k. stateValue rows i (k % e .period)))
 

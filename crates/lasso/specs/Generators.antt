@@ -11,7 +11,8 @@ use Rattle.memory.specs.Lists.{allBelow, tabulate, firstFrom, countIf}
 use Rattle.ternary.specs.Ternary.{Ternary, X, equal3, isKnown}
 use Rattle.netlist.specs.Limits.{mostPhases}
 use Rattle.netlist.specs.Rows.{Row, rowAt, isRegister}
-use Rattle.netlist.specs.Simulation.{ternaryLogic, valueAt, ternaryState}
+use Rattle.netlist.specs.Simulation.{valueAt}
+use Rattle.lasso.specs.TernaryRun.{ternaryLogic, ternaryState}
 use Rattle.lasso.specs.LassoSearch.{Lasso}
 
 -- What row i holds in state t.

@@ -12,7 +12,7 @@ use Rattle.memory.specs.Lists.{firstFrom}
 use Rattle.ternary.specs.Ternary.{Ternary, equal3}
 use Rattle.netlist.specs.Limits.{lastState}
 use Rattle.netlist.specs.Rows.{Row}
-use Rattle.netlist.specs.Simulation.{ternaryState}
+use Rattle.lasso.specs.TernaryRun.{ternaryState}
 
 abbrev pub equalStates : List Ternary → List Ternary → Bool
 equalStates [] [] = true

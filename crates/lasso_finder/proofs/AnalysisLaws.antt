@@ -15,17 +15,20 @@ use Rattle.lasso.specs.LassoSearch.{Lasso, findLasso}
 use Rattle.lasso.specs.Generators.{periodsOf, usedCount, phaseCount, clockValue}
 use Rattle.lasso.specs.ClockEntries.{clockEntries}
 use Rattle.lasso.proofs.PhaseCountLaws.{phases-pos, phases-le}
-use Rattle.lasso_finder.specs.WorkMap.{knownPlace, knownIn, entriesIn}
-use Rattle.lasso_finder.specs.StateMap.{statePlace, valuePlace}
-use Rattle.lasso_finder.specs.Outcome.{WorkReady, phasesOf, analysisOf, Analysed}
-use Rattle.lasso_finder.specs.Stages.{repeatOf, LassoDone, lassoOf, lassoIn, Lassoed, PeriodPart, periodBytes, KnownPart, KnownRegisters, EntryPart}
-use Rattle.lasso_finder.specs.declared.search.Repeat.{Repeat}
-use Rattle.lasso_finder.specs.declared.search.Repeat.the-variants.{Found as AtState, Never}
+use Rattle.ternary_step.specs.WorkMap.{knownPlace, knownIn, entriesIn}
+use Rattle.ternary_step.specs.StateMap.{statePlace, valuePlace, ClearedWork}
+use Rattle.lasso_search.specs.SearchStage.{repeatOf, LassoDone}
+use Rattle.lasso_search.specs.declared.Repeat.{Repeat}
+use Rattle.lasso_search.specs.declared.Repeat.the-variants.{Found as AtState, Never}
+use Rattle.period_finder.specs.PeriodStage.{lassoOf, lassoIn, Lassoed, PeriodPart, periodBytes}
+use Rattle.period_finder.proofs.CountLaws.{phases-same}
+use Rattle.clock_words.specs.KnownStage.{KnownPart}
+use Rattle.clock_words.specs.EntryStage.{KnownRegisters, EntryPart}
+use Rattle.clock_words.proofs.KnownLaws.{known-is}
+use Rattle.clock_words.proofs.EntryLaws.{known-registers, entries-are, entries-number}
+use Rattle.lasso_finder.specs.Outcome.{phasesOf, analysisOf, Analysed}
 use Rattle.lasso_finder.specs.declared.Analysis.{Analysis}
 use Rattle.lasso_finder.specs.declared.Analysis.the-variants.{NoLasso, Found}
-use Rattle.lasso_finder.proofs.CountLaws.{phases-same}
-use Rattle.lasso_finder.proofs.KnownLaws.{known-is}
-use Rattle.lasso_finder.proofs.EntryLaws.{known-registers, entries-are, entries-number}
 
 -- What the finder's answer says of the lasso.
 never-none : (o : Option Lasso) → Never ≡ repeatOf o → o ≡ none
@@ -50,7 +53,7 @@ module _ {rows : List Row} {w w₁ : List ℕ} {r : Repeat} (L : LassoDone rows 
         kept = kept-wider (statePlace 0) (knownPlace mostOriginalRows) (L .kept) (omega arith) (omega arith);
       }
 
-  module _ {stem cycle : ℕ} (found : r ≡ AtState stem cycle) (ready : WorkReady w) where
+  module _ {stem cycle : ℕ} (found : r ≡ AtState stem cycle) (ready : ClearedWork w) where
     lasso-found : findLasso rows ≡ some (record { stem = stem; cycle = cycle })
     lasso-found = found-some (findLasso rows) stem cycle (sym found ∙ L .answer)
 

@@ -1,5 +1,2 @@
--- The stages of the lasso in the work memory.
-pub mod WorkMap
-pub mod StateMap
+-- The outcome of the analysis.
 pub mod Outcome
-pub mod Stages

@@ -1,39 +1,33 @@
 -- What the analysis of a netlist answers, and what it leaves in the work memory.
--- Interface: WorkReady, analysisOf, Analysed.
+-- Interface: analysisOf, Analysed.
 -- Assumes nothing.
-use Prim.Native.Nat.{ℕ, _<_, _≤_}
+use Prim.Native.Nat.{ℕ, _<_}
 use mathlib.Core.Path.{_≡_}
 use mathlib.Core.List.{List}
 use mathlib.Core.Option.{Option, none, some}
 use lib.ListN.{length}
-use Rattle.memory.specs.Fields.{byteAt}
 use Rattle.memory.specs.Frames.{KeptOutside}
-use Rattle.netlist.specs.Limits.{mostOriginalRows, foldWorkBytes}
+use Rattle.netlist.specs.Limits.{mostOriginalRows}
 use Rattle.netlist.specs.Rows.{Row}
 use Rattle.lasso.specs.LassoSearch.{Lasso, findLasso}
 use Rattle.lasso.specs.Generators.{periodsOf, usedCount, phaseCount, clockValue}
 use Rattle.lasso.specs.ClockEntries.{clockEntries}
-use Rattle.lasso_finder.specs.WorkMap.{knownPlace, knownIn, entriesIn}
-use Rattle.lasso_finder.specs.StateMap.{statePlace}
+use Rattle.ternary_step.specs.WorkMap.{knownPlace, knownIn, entriesIn}
+use Rattle.ternary_step.specs.StateMap.{statePlace}
 use Rattle.lasso_finder.specs.declared.Analysis.{Analysis}
 use Rattle.lasso_finder.specs.declared.Analysis.the-variants.{NoLasso, Found}
 use Rattle.lasso_finder.specs.declared.Clocks.{Clocks}
-
--- The work memory at the start: long enough, and all 0.
-pub record WorkReady (w : List ℕ) : Type 0 where
-  pub room : foldWorkBytes ≤ length w
-  pub zero : (x : ℕ) → byteAt w x ≡ 0
 
 -- The phase count of the lasso z.
 abbrev pub phasesOf : List Row → ℕ → Lasso → ℕ
 phasesOf rows wish z = phaseCount wish (periodsOf rows z)
 
-abbrev pub clocksOf : List Row → ℕ → Lasso → Clocks
-clocksOf rows wish z = record { stem = z .stem; cycle = z .cycle; phases = phasesOf rows wish z; used = usedCount (periodsOf rows z) (phasesOf rows wish z) }
+abbrev pub analysedClocks : List Row → ℕ → Lasso → Clocks
+analysedClocks rows wish z = record { stem = z .stem; cycle = z .cycle; phases = phasesOf rows wish z; used = usedCount (periodsOf rows z) (phasesOf rows wish z) }
 
 abbrev pub analysisOf : List Row → ℕ → Option Lasso → Analysis
 analysisOf rows wish none = NoLasso
-analysisOf rows wish (some z) = Found (clocksOf rows wish z)
+analysisOf rows wish (some z) = Found (analysedClocks rows wish z)
 
 -- The answer; if there is a lasso, what is known of each row in each phase, and the clock entries. w is the memory before, w′ after.
 pub record Analysed (rows : List Row) (wish : ℕ) (w w′ : List ℕ) (r : Analysis) : Type 0 where

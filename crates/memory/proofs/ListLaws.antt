@@ -3,15 +3,16 @@
 use Prim.Native.Nat.{ℕ, zero, suc, _+_, _*_, _<_, _≤_}
 use mathlib.Core.Path.{_≡_, refl, sym, ap, _∙_}
 use mathlib.Core.Logic.{_↔_}
-use mathlib.Core.Bool.{Bool, true, false, cond, false≢true}
+use mathlib.Core.Bool.{Bool, true, false, cond, false≢true, true≢false}
 use mathlib.Core.List.{List, [], _∷_, _++_}
 use native.Mathlib.Omega.{arith}
+use native.Mathlib.Numerals.{add-one}
 use native.Mathlib.Decide.{decLt}
 use native.Mathlib.Nat.{mul-suc, mul-le-mul-left}
 use lib.ListN.{length, getD, length-append, List·getD-append}
 use lib.Seq.{getD-at, getD-append-add}
 use Rattle.memory.specs.Lists.{allBelow, joinBelow, tabulate, firstFrom, countIf}
-use Rattle.memory.proofs.TestLaws.{and-true, last-or, cond-case}
+use Rattle.memory.proofs.TestLaws.{and-true, fails, last-or, cond-case}
 
 -- ---- allBelow
 
@@ -27,6 +28,12 @@ allBelow-of (suc n) f h = rw (allBelow-of n f (λ t l. h t (omega arith)), h n (
 
 pub allBelow-iff {ℓ} : {P : ℕ → Type ℓ} (n : ℕ) (f : ℕ → Bool) → ((i : ℕ) → (f i ≡ true) ↔ P i) → (allBelow n f ≡ true) ↔ ((i : ℕ) → i < n → P i)
 allBelow-iff n f h = (λ e i l. h i .0 (allBelow-at n f e i l), λ g. allBelow-of n f (λ i l. h i .1 (g i l)))
+
+pub allBelow-more : (n : ℕ) (f : ℕ → Bool) → allBelow n f ≡ true → f n ≡ true → allBelow (n + 1) f ≡ true
+allBelow-more n f h e = rw (add-one n, h, e) refl
+
+pub allBelow-no : (n : ℕ) (f : ℕ → Bool) (i : ℕ) → i < n → f i ≡ false → allBelow n f ≡ false
+allBelow-no n f i h e = fails (allBelow n f) (λ q. true≢false (sym (allBelow-at n f q i h) ∙ e))
 
 -- ---- joinBelow
 

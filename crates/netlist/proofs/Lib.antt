@@ -1,5 +1,4 @@
 -- Laws of rows, runs, the three-valued run and files.
 pub mod RowLaws
 pub mod SimulationLaws
-pub mod TernarySoundness
 pub mod FileLaws

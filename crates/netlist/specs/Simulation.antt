@@ -7,7 +7,6 @@ use Prim.Native.Nat.{ℕ, zero, suc, _/_, _%_}
 use mathlib.Core.Bool.{Bool, false, cond, not, _&&_}
 use mathlib.Core.List.{List, [], _∷_, _++_, map}
 use lib.ListN.{length, getD}
-use Rattle.ternary.specs.Ternary.{Ternary, lo, X, not3, and3, xor3, mux3}
 use Rattle.netlist.specs.Rows.{Row, constant, input, register, andGate, xorGate, muxGate, output, rowAt, onRegister, rowNamed}
 
 -- What the evaluator asks of a kind of values: false, inversion, and the three gates.
@@ -24,9 +23,6 @@ boolXor a b = cond a (not b) b
 
 abbrev pub boolLogic : Logic
 boolLogic = record { Value = Bool; low = false; inverse = not; andOf = _&&_; xorOf = boolXor; muxOf = cond }
-
-abbrev pub ternaryLogic : Logic
-ternaryLogic = record { Value = Ternary; low = lo; inverse = not3; andOf = and3; xorOf = xor3; muxOf = mux3 }
 
 module _ (L : Logic) where
   -- v, inverted if the number is not 0.
@@ -81,10 +77,6 @@ module _ (L : Logic) where
     -- The value of row n at step t.
     unfoldable pub runValue : (ℕ → L .Value) → (ℕ → ℕ → ℕ → L .Value) → ℕ → ℕ → L .Value
     runValue c i t n = valueAt (stepValues (runState c i t) (i t)) n
-
--- State t of the three-valued run.
-abbrev pub ternaryState : List Row → ℕ → List Ternary
-ternaryState rows t = runState ternaryLogic rows (λ l. X) (λ s l p. X) t
 
 -- ---- the words of demand 3
 

@@ -6,7 +6,7 @@ use mathlib.Core.List.{List, _++_}
 use lib.ListN.{length, drop, replicate}
 use Rattle.memory.proofs.ListLaws.{tabulate-length}
 use Rattle.lasso.specs.ClockEntries.{ClockEntry}
-use Rattle.lasso_finder.specs.WorkMap.{entryIn, entriesIn}
+use Rattle.ternary_step.specs.WorkMap.{entryIn, entriesIn}
 use Rattle.clock_list.specs.ClockCode.{clocksOf}
 use Rattle.clock_list.specs.declared.Clock.{Clock}
 use Rattle.fold_core.specs.FoldAnswers.{usedIn}

@@ -15,18 +15,16 @@ use borrow.Author.Tests.{ltb-true, leb-true, lt-ltb, le-leb}
 use Rattle.memory.specs.Lists.{countIf}
 use Rattle.memory.specs.Fields.{byteAt}
 use Rattle.memory.proofs.ListLaws.{count-some}
-use Rattle.netlist.specs.Limits.{mostPhases, mostOriginalRows, mostOriginalRegisters, mostSteps, mostRows}
-use Rattle.netlist.specs.Rows.{Row, constant, input, register, andGate, xorGate, muxGate, output, RowFields, encodeRow, rowFromFields, decodeRow, rowAt, phaseOf, hasName, isRegister, isOutput}
+use Rattle.netlist.specs.Limits.{mostPhases, mostSteps, mostRows}
+use Rattle.netlist.specs.Rows.{Row, constant, input, register, andGate, xorGate, muxGate, output, RowFields, encodeRow, rowFromFields, decodeRow, rowAt, phaseOf, hasName, isOutput}
 use Rattle.netlist.specs.FileFormat.{blockCount, blockAt, fieldsOf, fieldsAt, netlistOf, blocksFor}
 use Rattle.netlist.proofs.RowLaws.{output-is, named-alike}
-use Rattle.netlist.specs.WellFormed.{CheckedRows, SameName, OperandsBelow, Ordered, NextBelow, ResetIn, NamesNode, OnLiterals, NamesUnique, AcceptedRows}
+use Rattle.netlist.specs.WellFormed.{CheckedRows, SameName, OperandsBelow, Ordered, NextBelow, ResetIn, NamesNode, OnLiterals, NamesUnique}
 use Rattle.netlist.proofs.FileLaws.{block-at, read-length}
-use Rattle.lasso.specs.LassoSearch.{Lasso, findLasso}
-use Rattle.questions.specs.Questions.{Refusal, noRefusal, question, itemQuestions, lengthRight, sumRight, headRight, countRight, unusedRight, blockQuestions, kindRight, fieldsRight, labelIsNew, namesEarlier, literalsRight, rowQuestions, rowsRefusal, fileRefusalWith, fileRefusal, phaseQuestion, originalRefusal, foldMemoryRight, hasLasso, foldRefusal, valueListsRight, allBinary, runMemoryRight, runRefusal, showRefusal}
+use Rattle.questions.specs.Questions.{Refusal, noRefusal, question, itemQuestions, lengthRight, sumRight, headRight, countRight, unusedRight, blockQuestions, kindRight, fieldsRight, labelIsNew, namesEarlier, literalsRight, rowQuestions, rowsRefusal, fileRefusalWith, fileRefusal, valueListsRight, allBinary, runMemoryRight, runRefusal, showRefusal}
 use Rattle.questions.proofs.QuestionLaws.{all-none, all-yes, _then_, number-none, question-none, question-of, items-none, items-yes, passed, passed-of}
 use Rattle.questions.specs.QuestionWords.{LengthWords, KindWords, FieldsWords}
-use Rattle.questions.specs.FoldRefusalWords.{MemoryRight}
-use Rattle.questions.proofs.PlainWords.{lengthRight-iff, BlockWords, sumRight-iff, headRight-iff, countRight-iff, unusedRight-iff, kindRight-iff, fieldsRight-iff, labelIsNew-iff, literalsRight-iff, namesEarlier-iff, phaseQuestion-iff, foldMemoryRight-iff, hasLasso-iff}
+use Rattle.questions.proofs.PlainWords.{lengthRight-iff, BlockWords, sumRight-iff, headRight-iff, countRight-iff, unusedRight-iff, kindRight-iff, fieldsRight-iff, labelIsNew-iff, literalsRight-iff, namesEarlier-iff}
 
 -- What a gate's operands may name.
 abbrev pub Operand : Type 0
@@ -268,85 +266,6 @@ rows-checked ws R = record {
 pub file-checked : (f : List ℕ) → FileRight namesEarlier f → CheckedRows (netlistOf f)
 unfolding netlistOf
 file-checked f F = rows-checked (fieldsOf f) (file-rows namesEarlier f F)
-
--- ---- 11 to 16: Fold
-
--- What questions 11 to 13 say of the rows.
-pub record OriginalRight (rows : List Row) : Type 0 where
-  pub small : length rows ≤ mostOriginalRows
-  pub registers : countIf isRegister rows ≤ mostOriginalRegisters
-  pub phases : (i : ℕ) → i < length rows → phaseOf (rowAt rows i) ≡ 0
-
-module _ (rows : List Row) where
-  abbrev originalAsked : List Refusal
-  originalAsked = question 11 (leb (length rows) mostOriginalRows) ∷ question 12 (leb (countIf isRegister rows) mostOriginalRegisters) ∷ itemQuestions (length rows) (phaseQuestion rows) ∷ []
-
-  pub original-right : originalRefusal rows .number ≡ 0 → OriginalRight rows
-  unfolding originalRefusal
-  original-right h =
-      let q = all-none originalAsked h in
-      record {
-        small = leb-true (length rows) mostOriginalRows (question-none 10 _ (q .0));
-        registers = leb-true (countIf isRegister rows) mostOriginalRegisters (question-none 11 _ (q .1 .0));
-        phases = λ i l. phaseQuestion-iff rows i .0 (items-none (length rows) (phaseQuestion rows) (q .1 .1 .0) i l);
-      }
-
-  pub original-yes : OriginalRight rows → originalRefusal rows ≡ noRefusal
-  unfolding originalRefusal
-  original-yes O =
-      all-yes originalAsked
-      (question-of 11 _ (le-leb (length rows) mostOriginalRows (O .small))
-      then question-of 12 _ (le-leb (countIf isRegister rows) mostOriginalRegisters (O .registers))
-      then number-none _ (items-yes (length rows) (phaseQuestion rows) (λ i l. phaseQuestion-iff rows i .1 (O .phases i l)))
-      then tt)
-
-pub rows-accepted : (rows : List Row) → CheckedRows rows → OriginalRight rows → AcceptedRows rows
-rows-accepted rows C O = record {
-  formed = record { ordered = C .ordered; nexts = C .nexts; phases = O .phases };
-  small = O .small;
-  constant-first = C .constant-first;
-  resets = C .resets;
-  has-output = C .has-output;
-  unique = C .unique;
-}
-
--- What Fold was given, where it refuses nothing.
-pub record FoldRight (file : List ℕ) (wish result work clocks : ℕ) : Type 0 where
-  pub file-right : FileRight namesEarlier file
-  pub original : OriginalRight (netlistOf file)
-  pub wish-small : wish ≤ mostPhases
-  pub memory : MemoryRight result work clocks
-  pub lasso : Lasso
-  pub found : findLasso (netlistOf file) ≡ some lasso
-
-module _ (file : List ℕ) (wish result work clocks : ℕ) where
-  abbrev foldAsked : List Refusal
-  foldAsked = fileRefusal file ∷ originalRefusal (netlistOf file) ∷ question 14 (leb wish mostPhases) ∷ question 15 (foldMemoryRight result work clocks) ∷ question 16 (hasLasso (netlistOf file)) ∷ []
-
-  pub fold-right : foldRefusal file wish result work clocks .number ≡ 0 → FoldRight file wish result work clocks
-  unfolding foldRefusal
-  fold-right h =
-      let q = all-none foldAsked h in
-      let z = hasLasso-iff (netlistOf file) .0 (question-none 15 _ (q .1 .1 .1 .1 .0)) in
-      record {
-        file-right = file-right namesEarlier file (q .0);
-        original = original-right (netlistOf file) (q .1 .0);
-        wish-small = leb-true wish mostPhases (question-none 13 _ (q .1 .1 .0));
-        memory = foldMemoryRight-iff result work clocks .0 (question-none 14 _ (q .1 .1 .1 .0));
-        lasso = z .0;
-        found = z .1;
-      }
-
-  pub fold-yes : FoldRight file wish result work clocks → foldRefusal file wish result work clocks ≡ noRefusal
-  unfolding foldRefusal
-  fold-yes F =
-      all-yes foldAsked
-      (number-none _ (file-yes namesEarlier file (F .file-right))
-      then number-none _ (original-yes (netlistOf file) (F .original))
-      then question-of 14 _ (le-leb wish mostPhases (F .wish-small))
-      then question-of 15 _ (foldMemoryRight-iff result work clocks .1 (F .memory))
-      then question-of 16 _ (hasLasso-iff (netlistOf file) .1 (F .lasso, F .found))
-      then tt)
 
 -- ---- 17 to 20: Run
 

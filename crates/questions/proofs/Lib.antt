@@ -4,5 +4,6 @@ pub mod PlainWords
 pub mod AcceptedFiles
 pub mod AskedLaws
 pub mod RefusalMeaning
-pub mod FoldRefusalMeaning
 pub mod PrefixLaws
+pub mod WriteThenRead
+pub mod ReadThenWrite

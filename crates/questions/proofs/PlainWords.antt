@@ -15,16 +15,13 @@ use Rattle.memory.specs.Lists.{countIf}
 use Rattle.memory.specs.Fields.{byteAt}
 use Rattle.memory.proofs.TestLaws.{and-true, leb-iff, ltb-iff, eqb-iff, not-iff, none-iff, and-iff, or-iff, cond-iff}
 use Rattle.memory.proofs.ListLaws.{allBelow-iff, count-pos, count-some}
-use Rattle.netlist.specs.Limits.{mostFileBytes, mostPhases, foldResultBytes, foldWorkBytes, foldClockEntries, runWorkBytes}
+use Rattle.netlist.specs.Limits.{mostFileBytes, mostPhases, runWorkBytes}
 use Rattle.netlist.specs.Rows.{Row, constant, input, register, andGate, xorGate, muxGate, output, RowFields, encodeRow, rowFromFields, rowAt, kindOf, labelOf, phaseOf, hasName, isInput, isUnknown, isOutput}
 use Rattle.netlist.specs.FileFormat.{wordSum, rightSum, fieldsAt}
 use Rattle.netlist.proofs.RowLaws.{named-is, named-of}
 use Rattle.netlist.specs.WellFormed.{SameName, ResetIn, NamesNode, OnLiterals}
-use Rattle.lasso.specs.LassoSearch.{Lasso, findLasso}
-use Rattle.lasso.proofs.LassoLaws.{lasso-is, lasso-found}
-use Rattle.questions.specs.Questions.{lengthRight, sumRight, headRight, countRight, unusedRight, kindRight, fieldsRight, sameName, labelIsNew, namesNode, namesEarlier, literalsRight, phaseQuestion, foldMemoryRight, hasLasso, valueListsRight, allBinary, runMemoryRight}
+use Rattle.questions.specs.Questions.{lengthRight, sumRight, headRight, countRight, unusedRight, kindRight, fieldsRight, sameName, labelIsNew, namesNode, namesEarlier, literalsRight, valueListsRight, allBinary, runMemoryRight}
 use Rattle.questions.specs.QuestionWords.{LengthWords, SumWords, MarkWords, HeadWords, rowsSaid, CountWords, UnusedWords, KindWords, FieldsWords, LabelWords, NamesEarlierNode, LiteralWords, OutputWords, ListsWords, BinaryWords, RoomWords}
-use Rattle.questions.specs.FoldRefusalWords.{MemoryRight, LassoWords}
 
 -- ---- 1 to 5: the length, and block B
 
@@ -167,34 +164,6 @@ literalWords-iff rows i k w = literals-iff namesEarlier rows i (NamesEarlierNode
 
 pub someOutput-iff : (rows : List Row) → (ltb 0 (countIf isOutput rows) ≡ true) ↔ OutputWords rows
 someOutput-iff rows = Iff·trans (ltb-iff 0 (countIf isOutput rows)) (count-some isOutput constant rows, λ w. count-pos isOutput constant rows (w .0) (w .1) (w .2))
-
--- ---- 13, 15 and 16: Fold
-
-pub phaseQuestion-iff : (rows : List Row) (i : ℕ) → (phaseQuestion rows i ≡ 0) ↔ (phaseOf (rowAt rows i) ≡ 0)
-phaseQuestion-iff rows i = Iff·trans (zero-iff (eqb (phaseOf (rowAt rows i)) 0)) (eqb-iff (phaseOf (rowAt rows i)) 0)
-  where
-    zero-iff : (t : Bool) → (_≡_ {A = ℕ} (cond t 0 13) 0) ↔ (t ≡ true)
-    zero-iff true = (λ _. refl, λ _. refl)
-    zero-iff false = (λ e. absurd (omega arith), λ e. absurd (false≢true e))
-
-pub foldMemoryRight-iff : (result work clocks : ℕ) → (foldMemoryRight result work clocks ≡ true) ↔ MemoryRight result work clocks
-foldMemoryRight-iff result work clocks =
-    Iff·trans (and-iff _ _ (and-iff _ _ (leb-iff foldResultBytes result) (leb-iff foldWorkBytes work)) (leb-iff foldClockEntries clocks))
-    (λ w. record { result-long = w .0 .0; work-long = w .0 .1; clocks-long = w .1 }, λ w. ((w .result-long, w .work-long), w .clocks-long))
-
-pub hasLasso-iff : (rows : List Row) → (hasLasso rows ≡ true) ↔ ((z : Lasso) × (findLasso rows ≡ some z))
-hasLasso-iff rows = found (findLasso rows)
-  where
-    found : (o : Option Lasso) → ((elim o as (λ _. Bool) [ none ↦ false | some z ↦ true ]) ≡ true) ↔ ((z : Lasso) × (o ≡ some z))
-    found none = (λ e. absurd (false≢true e), λ z. absurd (let q : _≡_ {A = ℕ} 0 1 = cc (z .1) in omega arith))
-    found (some z) = (λ _. (z, refl), λ _. refl)
-
-pub lassoWords-iff : (rows : List Row) → (hasLasso rows ≡ true) ↔ LassoWords rows
-lassoWords-iff rows =
-    Iff·trans (hasLasso-iff rows) (
-      λ z. (let is = lasso-is rows (z .0) (z .1) in (z .0 .stem, z .0 .stem + z .0 .cycle, is .repeat, is .within)),
-      λ w. lasso-found rows (w .0) (w .1) (w .2) (w .3),
-    )
 
 -- ---- 18 to 20: Run
 

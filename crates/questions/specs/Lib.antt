@@ -2,4 +2,4 @@
 pub mod Questions
 pub mod QuestionWords
 pub mod RefusalWords
-pub mod FoldRefusalWords
+pub mod RoundTrips

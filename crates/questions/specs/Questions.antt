@@ -10,10 +10,9 @@ use lib.ListN.{length}
 use lib.Dec.{eqb, ltb, leb}
 use Rattle.memory.specs.Lists.{allBelow, firstFrom, countIf}
 use Rattle.memory.specs.Fields.{byteAt}
-use Rattle.netlist.specs.Limits.{mostFileBytes, mostPhases, mostOriginalRows, mostOriginalRegisters, foldResultBytes, foldWorkBytes, foldClockEntries, mostSteps, runWorkBytes}
+use Rattle.netlist.specs.Limits.{mostFileBytes, mostPhases, mostSteps, runWorkBytes}
 use Rattle.netlist.specs.Rows.{Row, constant, input, register, andGate, xorGate, muxGate, output, RowFields, decodeRow, rowAt, kindOf, labelOf, phaseOf, hasName, isNamed, isInput, isRegister, isUnknown, isOutput}
 use Rattle.netlist.specs.FileFormat.{lastMark, wordSum, rightSum, blockCount, blockAt, fieldsOf, fieldsAt, netlistOf}
-use Rattle.lasso.specs.LassoSearch.{findLasso}
 
 -- A refusal; number 0 is none, and its place is 0.
 pub record Refusal : Type 0 where
@@ -118,34 +117,6 @@ fileRefusalWith operand f = firstRefusal (question 1 (lengthRight f) ∷ itemQue
 -- Check, and what every operation asks first.
 abbrev pub fileRefusal : List ℕ → Refusal
 fileRefusal f = fileRefusalWith namesEarlier f
-
--- ---- Fold: wish, and the lengths of result, work and clock list
-
--- 13, of row i.
-abbrev pub phaseQuestion : List Row → ℕ → ℕ
-phaseQuestion rows i = cond (eqb (phaseOf (rowAt rows i)) 0) 0 13
-
--- 11 to 13: what Fold asks of the rows alone.
-unfoldable pub originalRefusal : List Row → Refusal
-originalRefusal rows = firstRefusal (question 11 (leb (length rows) mostOriginalRows) ∷ question 12 (leb (countIf isRegister rows) mostOriginalRegisters) ∷ itemQuestions (length rows) (phaseQuestion rows) ∷ [])
-
-abbrev pub foldMemoryRight : ℕ → ℕ → ℕ → Bool
-foldMemoryRight result work clocks = leb foldResultBytes result && leb foldWorkBytes work && leb foldClockEntries clocks
-
-abbrev pub hasLasso : List Row → Bool
-hasLasso rows = elim (findLasso rows) [ none ↦ false | some z ↦ true ]
-
--- 14 and 15: what Fold asks of the wish and of what it is lent.
-abbrev pub argumentQuestions : ℕ → ℕ → ℕ → ℕ → List Refusal
-argumentQuestions wish result work clocks = question 14 (leb wish mostPhases) ∷ question 15 (foldMemoryRight result work clocks) ∷ []
-
-unfoldable pub foldRefusal : List ℕ → ℕ → ℕ → ℕ → ℕ → Refusal
-foldRefusal file wish result work clocks =
-    firstRefusal
-    (fileRefusal file
-    ∷ originalRefusal (netlistOf file)
-    ∷ argumentQuestions wish result work clocks
-    ++ (question 16 (hasLasso (netlistOf file)) ∷ []))
 
 -- ---- Run: T steps, the two lists of values, and the lengths of result and work
 

@@ -7,7 +7,6 @@ use native.Mathlib.Omega.{arith}
 use lib.ListN.{length, drop, replicate, length-replicate}
 use borrow.Author.Tests.{ne-eqb}
 use Rattle.memory.specs.Lists.{countIf}
-use Rattle.netlist.specs.Limits.{mostRows, runWorkBytes}
 use Rattle.netlist.specs.Rows.{isOutput}
 use Rattle.netlist.specs.FileFormat.{netlistOf}
 use Rattle.netlist.specs.RunLayout.{runBytes}
@@ -53,16 +52,16 @@ module _ (file : List ℕ) (T : ℕ) (choices inputs result work : List ℕ) (pl
     right : RunRight file T choices inputs (length result) (length work)
     right = run-accepted file T choices inputs (length result) (length work) (number-none (runRefusal file T choices inputs (length result) (length work)) (sym none))
 
-    -- The cleared memory has two halves, each of a byte for each row.
-    pub given-by : (half : ℕ) → mostRows ≤ half → half + half ≤ runWorkBytes → (work′ : List ℕ) → work′ ≡ replicate (length work) 0 → Given file rows nodes ins T choices inputs (length result) work′ half
-    given-by half h k work′ q =
+    -- The cleared memory has a byte for each row twice.
+    pub given-by : (work′ : List ℕ) → work′ ≡ replicate (length work) 0 → Given file rows nodes ins T choices inputs (length result) work′ rows
+    given-by work′ q =
         let g = planned .go rows nodes ins e in
         let room = runMemoryRight-iff (netlistOf file) T (length result) (length work) .0 (right .memory) .1 in
         let few = ready-right file (right .file-right) .few in
         let l : length work′ ≡ length work = rw q (length-replicate (length work) 0) in
         let binary : IsBinary work′ = rw q (binary-zeros (length work)) in
-        subst (λ (n : ℕ). Given file n nodes ins T choices inputs (length result) work′ half) (sym (g .0))
-        (given-of file nodes ins T choices inputs (length result) (length work) work′ half right (g .1 .0) (g .1 .1) (omega arith) (omega arith) binary)
+        subst (λ (n : ℕ). Given file n nodes ins T choices inputs (length result) work′ n) (sym (g .0))
+        (given-of file nodes ins T choices inputs (length result) (length work) work′ (length (netlistOf file)) right (g .1 .0) (g .1 .1) (omega arith) (omega arith) binary)
 
     pub ran-done : (result′ work₁ work′ : List ℕ) → result′ ≡ runBytes (netlistOf file) choices inputs T ++ drop (T * countIf isOutput (netlistOf file)) result → length work₁ ≡ length work → work′ ≡ replicate (length work₁) 0 → Ran file T choices inputs result result′ work work′ Done
     ran-done result′ work₁ work′ w l c = record { refusal = none; written = w; cleared = c ∙ ap (λ (n : ℕ). replicate n 0) l }

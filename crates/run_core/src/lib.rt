@@ -67,9 +67,6 @@ const MOST_STEPS: usize = 4096;
 
 const WORK_BYTES: usize = 16384;
 
-// Where the registers' values begin in the work memory.
-const HALF: usize = WORK_BYTES / 2;
-
 // 19, of one list.
 fn all_binary(values: &[u8]) -> bool
     ensures { λ r. ⌜ r ≡ allBinary (now (values .entry)) ⌝ }
@@ -187,7 +184,7 @@ pub fn run_core(
                 inputs,
                 result,
                 &mut *work,
-                HALF,
+                rows,
             );
             memory::clear(work);
             RunAnswer::Done

@@ -9,7 +9,7 @@ use lib.ListN.{set, List·getD-map}
 use lib.Seq.{sets}
 use Rattle.memory.specs.Fields.{byteAt}
 use Rattle.netlist.specs.Simulation.{boolLogic, boolXor, complementIf, literalValue, valueAt}
-use Rattle.simulate.specs.Values.{IsBinary, bit, bitAt, bitFrom, bitByte, bitBytes, noValue}
+use Rattle.simulate.specs.Values.{IsBinary, bit, truthAt, bitFrom, bitByte, bitBytes, noValue}
 
 -- ---- values and bytes
 
@@ -33,7 +33,7 @@ no-value b e = omega (arith, byte-most b)
 pub bytes-at : (bs : List Bool) (i : ℕ) → byteAt (bitBytes bs) i ≡ bitByte (valueAt boolLogic bs i)
 bytes-at bs i = List·getD-map bitByte bs i false
 
-pub bits-at : (bs : List Bool) (i : ℕ) → bitAt (bitBytes bs) i ≡ valueAt boolLogic bs i
+pub bits-at : (bs : List Bool) (i : ℕ) → truthAt (bitBytes bs) i ≡ valueAt boolLogic bs i
 bits-at bs i = ap bit (bytes-at bs i) ∙ bit-byte (valueAt boolLogic bs i)
 
 -- ---- lists of bytes 0 and 1

@@ -23,8 +23,8 @@ use Rattle.netlist.specs.WellFormed.{NextBelow}
 use Rattle.netlist.proofs.RowLaws.{next-wider}
 use Rattle.netlist.proofs.SimulationLaws.{literal-cong, row-cong, values-length}
 use Rattle.blockfile.proofs.CountLaws.{count-next, count-some-le, count-place}
-use Rattle.simulate.specs.Values.{IsBinary, bit, bitAt, bitFrom, bitByte, bitBytes, heldIn, stateFrom, stepInputs, resetChoices, valuesBefore, valuesFrom}
-use Rattle.simulate.specs.Steps.{RowReady, NetlistReady, WorkReady, TwoHalves}
+use Rattle.simulate.specs.Values.{IsBinary, bit, truthAt, bitFrom, bitByte, bitBytes, heldIn, stateFrom, stepInputs, resetChoices, valuesBefore, valuesFrom}
+use Rattle.simulate.specs.Steps.{RowToRun, NetlistReady, ValuesRoom, TwoHalves}
 use Rattle.simulate.proofs.BitLaws.{bytes-at, bits-at, binary-set, binary-sets}
 use Rattle.simulate.proofs.WriteLaws.{put-last, put-next}
 use Rattle.simulate.proofs.PlaceLaws.{input-place, register-place}
@@ -64,7 +64,7 @@ choice-cong u u′ (output _ _ _) e = refl
 -- ---- memory
 
 -- Written with values, memory is as ready as it was.
-pub work-written : (n half : ℕ) (v w : List ℕ) (o : ℕ) (xs : List ℕ) → WorkReady n half v → IsBinary xs → w ≡ sets v o xs → WorkReady n half w
+pub work-written : (n half : ℕ) (v w : List ℕ) (o : ℕ) (xs : List ℕ) → ValuesRoom n half v → IsBinary xs → w ≡ sets v o xs → ValuesRoom n half w
 work-written n half v w o xs W b e = rw e (record { rows-fit = W .rows-fit; halves-fit = omega (arith, W .halves-fit, length-sets v o xs); binary = binary-sets v o xs (W .binary) b })
 
 -- One value more, or values, written: the halves are as ready as they were.
@@ -81,7 +81,7 @@ module _ (f : List ℕ) (n : ℕ) (N : NetlistReady f n) where
   in-rows : (i : ℕ) → i < n → i < length (netlistOf f)
   in-rows i h = omega (arith, N .ready .count)
 
-  pub row-ready : (i : ℕ) → i < n → RowReady f i
+  pub row-ready : (i : ℕ) → i < n → RowToRun f i
   row-ready i h = record {
     few = omega (arith, N .ready .few);
     inside = N .ready .inside i h;
@@ -154,10 +154,10 @@ module _ (f : List ℕ) (n : ℕ) (N : NetlistReady f n) where
         value-is : (j : ℕ) → j < i → bitFrom w current j ≡ valueAt boolLogic (values i) j
         value-is j l = ap bit (ap (λ (l : List ℕ). byteAt l (current + j)) ew ∙ sets-at (bitBytes (values i)) v current j (omega (arith, written)) fits) ∙ bits-at (values i) j
 
-        input-is-at : (k : ℕ) → k ≡ placeAmong isInput (netlistOf f) i → (l p : ℕ) → rowAt (netlistOf f) i ≡ input l p → bitAt inputs (base + k) ≡ stepInputs (netlistOf f) inputs base l p
+        input-is-at : (k : ℕ) → k ≡ placeAmong isInput (netlistOf f) i → (l p : ℕ) → rowAt (netlistOf f) i ≡ input l p → truthAt inputs (base + k) ≡ stepInputs (netlistOf f) inputs base l p
         input-is-at k ek l p e = ap (bitFrom inputs base) (ek ∙ ap (placeAmong isInput (netlistOf f)) (sym (input-place (netlistOf f) (N .checked .unique) i (in-rows i h) l p e)))
 
-        pub evaluate-more : (k x : ℕ) → k ≡ placeAmong isInput (netlistOf f) i → x ≡ bitByte (rowValue boolLogic (heldIn w previous initial i (rowAt (netlistOf f) i)) (λ l p. bitAt inputs (base + k)) (bitFrom w current) (rowAt (netlistOf f) i))
+        pub evaluate-more : (k x : ℕ) → k ≡ placeAmong isInput (netlistOf f) i → x ≡ bitByte (rowValue boolLogic (heldIn w previous initial i (rowAt (netlistOf f) i)) (λ l p. truthAt inputs (base + k)) (bitFrom w current) (rowAt (netlistOf f) i))
             → set w (current + i) x ≡ sets v current (bitBytes (values (i + 1)))
         unfolding valuesUpTo
         evaluate-more k x ek ex =
@@ -166,9 +166,9 @@ module _ (f : List ℕ) (n : ℕ) (N : NetlistReady f n) where
             let s = stateFrom rows v previous initial in
             let u = stepInputs rows inputs base in
             let y = rowValue boolLogic (valueAt boolLogic s i) u (valueAt boolLogic (values i)) r in
-            let value : rowValue boolLogic (heldIn w previous initial i r) (λ l p. bitAt inputs (base + k)) (bitFrom w current) r ≡ y =
-            ap (λ (t : Bool). rowValue boolLogic t (λ l p. bitAt inputs (base + k)) (bitFrom w current) r) held-is
-            ∙ input-cong (valueAt boolLogic s i) (λ l p. bitAt inputs (base + k)) u (bitFrom w current) r (input-is-at k ek)
+            let value : rowValue boolLogic (heldIn w previous initial i r) (λ l p. truthAt inputs (base + k)) (bitFrom w current) r ≡ y =
+            ap (λ (t : Bool). rowValue boolLogic t (λ l p. truthAt inputs (base + k)) (bitFrom w current) r) held-is
+            ∙ input-cong (valueAt boolLogic s i) (λ l p. truthAt inputs (base + k)) u (bitFrom w current) r (input-is-at k ek)
             ∙ row-cong boolLogic (valueAt boolLogic s i) u (bitFrom w current) (valueAt boolLogic (values i)) i value-is r (N .checked .ordered i (in-rows i h)) in
             put-last w v (bitBytes (values i)) current (current + i) x ew (omega (arith, written))
             ∙ ap (λ (z : ℕ). sets v current (bitBytes (values i) ++ (z ∷ []))) (ex ∙ ap bitByte value)
@@ -200,7 +200,7 @@ module _ (f : List ℕ) (n : ℕ) (N : NetlistReady f n) where
     row-byte : (i : ℕ) → byteAt (bitBytes (map F (netlistOf f))) i ≡ bitByte (F (rowAt (netlistOf f) i))
     row-byte i = bytes-at (map F (netlistOf f)) i ∙ ap bitByte (ap (λ (d : Bool). getD (map F (netlistOf f)) i d) (sym low) ∙ List·getD-map F (netlistOf f) i constant)
 
-    module _ (half : ℕ) (v : List ℕ) (W : WorkReady n half v) (i : ℕ) (w : List ℕ) (h : i < n) (ew : w ≡ sets v half (take i (bitBytes (map F (netlistOf f))))) where
+    module _ (half : ℕ) (v : List ℕ) (W : ValuesRoom n half v) (i : ℕ) (w : List ℕ) (h : i < n) (ew : w ≡ sets v half (take i (bitBytes (map F (netlistOf f))))) where
       pub hold-more : (p x : ℕ) → p ≡ half + i → x ≡ bitByte (F (rowAt (netlistOf f) i)) → set w p x ≡ sets v half (take (i + 1) (bitBytes (map F (netlistOf f))))
       hold-more p x ep ex = put-next w v (bitBytes (map F (netlistOf f))) half i p x ew (omega (arith, row-bytes-length)) ep (ex ∙ sym (row-byte i))
 
@@ -208,11 +208,11 @@ module _ (f : List ℕ) (n : ℕ) (N : NetlistReady f n) where
     pub hold-all : (half : ℕ) (v w : List ℕ) (i : ℕ) → i ≡ n → w ≡ sets v half (take i (bitBytes (map F (netlistOf f)))) → w ≡ sets v half (bitBytes (map F (netlistOf f)))
     hold-all half v w i e ew = ew ∙ ap (λ (l : List ℕ). sets v half l) (take-all i (bitBytes (map F (netlistOf f))) (omega (arith, row-bytes-length)))
 
-  module _ (half : ℕ) (v : List ℕ) (W : WorkReady n half v) (i : ℕ) (w : List ℕ) (h : i < n) (choices : List ℕ) (k : ℕ) (ek : k ≡ placeAmong isUnknown (netlistOf f) i) where
+  module _ (half : ℕ) (v : List ℕ) (W : ValuesRoom n half v) (i : ℕ) (w : List ℕ) (h : i < n) (choices : List ℕ) (k : ℕ) (ek : k ≡ placeAmong isUnknown (netlistOf f) i) where
     abbrev startIn : Row → Bool
     startIn = resetValue boolLogic (resetChoices (netlistOf f) choices)
 
-    pub start-more : (p x : ℕ) → w ≡ sets v half (take i (bitBytes (map startIn (netlistOf f)))) → p ≡ half + i → x ≡ bitByte (resetValue boolLogic (λ l. bitAt choices k) (rowAt (netlistOf f) i)) → set w p x ≡ sets v half (take (i + 1) (bitBytes (map startIn (netlistOf f))))
+    pub start-more : (p x : ℕ) → w ≡ sets v half (take i (bitBytes (map startIn (netlistOf f)))) → p ≡ half + i → x ≡ bitByte (resetValue boolLogic (λ l. truthAt choices k) (rowAt (netlistOf f) i)) → set w p x ≡ sets v half (take (i + 1) (bitBytes (map startIn (netlistOf f))))
     start-more p x ew ep ex =
         hold-more startIn refl half v W i w h ew p x ep
-        (ex ∙ ap bitByte (choice-cong (λ l. bitAt choices k) (resetChoices (netlistOf f) choices) (rowAt (netlistOf f) i) (λ s m l e. ap (bitAt choices) (ek ∙ ap (placeAmong isUnknown (netlistOf f)) (sym (register-place (netlistOf f) (N .checked .unique) i (in-rows i h) s m l e))))))
+        (ex ∙ ap bitByte (choice-cong (λ l. truthAt choices k) (resetChoices (netlistOf f) choices) (rowAt (netlistOf f) i) (λ s m l e. ap (truthAt choices) (ek ∙ ap (placeAmong isUnknown (netlistOf f)) (sym (register-place (netlistOf f) (N .checked .unique) i (in-rows i h) s m l e))))))

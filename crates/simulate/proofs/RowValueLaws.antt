@@ -15,8 +15,8 @@ use Rattle.netlist.specs.WellFormed.{OperandsBelow, NextBelow}
 use Rattle.blockfile.specs.RowCode.{ifKnown}
 use Rattle.blockfile.proofs.RowCodeLaws.{kind-unknown}
 use Rattle.blockfile.proofs.CountLaws.{SortsBy, sorts-by}
-use Rattle.simulate.specs.Values.{IsBinary, bit, bitAt, bitFrom, bitByte, noValue, heldIn}
-use Rattle.simulate.specs.Steps.{RowReady}
+use Rattle.simulate.specs.Values.{IsBinary, bit, truthAt, bitFrom, bitByte, noValue, heldIn}
+use Rattle.simulate.specs.Steps.{RowToRun}
 use Rattle.simulate.proofs.BitLaws.{byte-bit, bit-byte}
 
 -- A row of another kind than 2 starts as 0.
@@ -30,7 +30,7 @@ no-register (suc (suc (suc (suc (suc zero))))) r a b c u n = refl
 no-register (suc (suc (suc (suc (suc (suc zero)))))) r a b c u n = refl
 no-register (suc (suc (suc (suc (suc (suc (suc k))))))) r a b c u n = refl
 
-module _ (f : List ℕ) (i : ℕ) (R : RowReady f i) (p : ℕ) (ep : p ≡ rowOffset i) (k : ℕ) (ek : k ≡ byteAt f p) where
+module _ (f : List ℕ) (i : ℕ) (R : RowToRun f i) (p : ℕ) (ep : p ≡ rowOffset i) (k : ℕ) (ek : k ≡ byteAt f p) where
   abbrev row : Row
   row = rowAt (netlistOf f) i
 
@@ -113,7 +113,7 @@ module _ (f : List ℕ) (i : ℕ) (R : RowReady f i) (p : ℕ) (ep : p ≡ rowOf
     pub value-unknown : (k ≡ 0 → ⊥) → (k ≡ 1 → ⊥) → (k ≡ 2 → ⊥) → (k ≡ 3 → ⊥) → (k ≡ 4 → ⊥) → (k ≡ 5 → ⊥) → (k ≡ 6 → ⊥) → Value noValue
     value-unknown = kind-unknown k (bitByte (rowValue boolLogic h u w row)) noValue
 
-  pub value-input : (h : Bool) (w : ℕ → Bool) (inputs : List ℕ) (j : ℕ) → k ≡ 1 → IsBinary inputs → byteAt inputs j ≡ ifKnown k (bitByte (rowValue boolLogic h (λ l p. bitAt inputs j) w row)) noValue
+  pub value-input : (h : Bool) (w : ℕ → Bool) (inputs : List ℕ) (j : ℕ) → k ≡ 1 → IsBinary inputs → byteAt inputs j ≡ ifKnown k (bitByte (rowValue boolLogic h (λ l p. truthAt inputs j) w row)) noValue
   value-input h w inputs j e bin = rw (row-read, e) (sym (byte-bit (byteAt inputs j) (bin j)))
 
   pub value-register : (h : Bool) (u : ℕ → ℕ → Bool) (w : ℕ → Bool) (x : ℕ) → k ≡ 2 → x ≡ bitByte h → x ≡ ifKnown k (bitByte (rowValue boolLogic h u w row)) noValue
@@ -121,7 +121,7 @@ module _ (f : List ℕ) (i : ℕ) (R : RowReady f i) (p : ℕ) (ep : p ≡ rowOf
 
 -- ---- what the row holds, and starts as: its bytes read at place p
 
-module _ (f : List ℕ) (i : ℕ) (R : RowReady f i) (p : ℕ) (ep : p ≡ rowOffset i) where
+module _ (f : List ℕ) (i : ℕ) (R : RowToRun f i) (p : ℕ) (ep : p ≡ rowOffset i) where
   at-place : rowAt (netlistOf f) i ≡ rowFromFields (byteAt f p) (byteAt f (p + 1)) (u16At f (p + 2)) (u16At f (p + 4)) (u16At f (p + 6))
   at-place = row-read f i R p ep (byteAt f p) refl
 
@@ -152,7 +152,7 @@ module _ (f : List ℕ) (i : ℕ) (R : RowReady f i) (p : ℕ) (ep : p ≡ rowOf
       pub start-is-unknown : isUnknown (rowAt (netlistOf f) i) ≡ true
       start-is-unknown = rw (at-place, e, reset-unknown) refl
 
-      pub start-unknown : (choices : List ℕ) (j : ℕ) → IsBinary choices → byteAt choices j ≡ bitByte (resetValue boolLogic (λ l. bitAt choices j) (rowAt (netlistOf f) i))
+      pub start-unknown : (choices : List ℕ) (j : ℕ) → IsBinary choices → byteAt choices j ≡ bitByte (resetValue boolLogic (λ l. truthAt choices j) (rowAt (netlistOf f) i))
       start-unknown choices j bin = rw (at-place, e, reset-unknown) (sym (byte-bit (byteAt choices j) (bin j)))
 
   module _ (n : byteAt f p ≡ 2 → ⊥) where

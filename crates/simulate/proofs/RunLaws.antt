@@ -25,7 +25,7 @@ use Rattle.netlist.proofs.RowLaws.{output-is}
 use Rattle.netlist.proofs.SimulationLaws.{values-length}
 use Rattle.blockfile.proofs.CountLaws.{count-next}
 use Rattle.simulate.specs.Values.{bit, bitFrom, bitByte, bitBytes, heldIn, stateFrom, stepInputs, resetChoices, valuesFrom, shownBytes}
-use Rattle.simulate.specs.Steps.{NetlistReady, WorkReady, TwoHalves, Given, Stepped}
+use Rattle.simulate.specs.Steps.{NetlistReady, ValuesRoom, TwoHalves, Given, Stepped}
 use Rattle.simulate.proofs.BitLaws.{bit-byte, bytes-at, bits-at, binary-bytes}
 use Rattle.simulate.proofs.WriteLaws.{write-front}
 use Rattle.simulate.proofs.PlaceLaws.{node-before, output-from, count-parts}
@@ -116,7 +116,7 @@ module _ (f : List ℕ) (n : ℕ) (N : NetlistReady f n) where
 
   -- ---- states
 
-  module _ (half : ℕ) (v w : List ℕ) (W : WorkReady n half v) where
+  module _ (half : ℕ) (v w : List ℕ) (W : ValuesRoom n half v) where
     -- The state that was written for the initial step.
     pub state-written : (ss : List Bool) → length ss ≡ length (netlistOf f) → w ≡ sets v half (bitBytes ss) → stateFrom (netlistOf f) w half true ≡ ss
     state-written ss e ew =
@@ -190,7 +190,7 @@ module _ (f : List ℕ) (n : ℕ) (N : NetlistReady f n) (choices inputs : List 
       (λ j l. sym (ap length (step-bytes _ j refl)) ∙ shown-length (netlistOf f) _)
       ∙ mul-comm (countIf isOutput (netlistOf f)) t
 
-  pub run-none : (half : ℕ) (v w r₀ : List ℕ) → WorkReady n half v → w ≡ sets v half (bitBytes (map (resetValue boolLogic (resetChoices (netlistOf f) choices)) (netlistOf f))) → Running f choices inputs n 0 half 0 w r₀ r₀
+  pub run-none : (half : ℕ) (v w r₀ : List ℕ) → ValuesRoom n half v → w ≡ sets v half (bitBytes (map (resetValue boolLogic (resetChoices (netlistOf f) choices)) (netlistOf f))) → Running f choices inputs n 0 half 0 w r₀ r₀
   unfolding runState runBytes valuesFromBytes
   run-none half v w r₀ W e =
       let first = map (resetValue boolLogic (resetChoices (netlistOf f) choices)) (netlistOf f) in

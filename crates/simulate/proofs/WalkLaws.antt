@@ -18,8 +18,8 @@ use Rattle.netlist.specs.WellFormed.{NextBelow}
 use Rattle.blockfile.specs.RowCode.{ifKnown}
 use Rattle.blockfile.proofs.RowCodeLaws.{kind-known}
 use Rattle.blockfile.proofs.CountLaws.{count-some-le}
-use Rattle.simulate.specs.Values.{IsBinary, bitAt, bitFrom, bitByte, bitBytes, noValue, heldIn, stateFrom, valuesBefore, valuesFrom}
-use Rattle.simulate.specs.Steps.{RowReady, NetlistReady, TwoHalves, BlockRows, ValuesStand}
+use Rattle.simulate.specs.Values.{IsBinary, truthAt, bitFrom, bitByte, bitBytes, noValue, heldIn, stateFrom, valuesBefore, valuesFrom}
+use Rattle.simulate.specs.Steps.{RowToRun, NetlistReady, TwoHalves, BlockRows, ValuesStand}
 use Rattle.simulate.proofs.BitLaws.{byte-most, binary-bytes}
 use Rattle.simulate.proofs.PassLaws.{row-ready, next-below, input-there, input-next, input-fits, halves-set, halves-written, evaluate-none, evaluate-more, evaluate-all}
 
@@ -54,7 +54,7 @@ module _ {f inputs : List ℕ} {base current previous : ℕ} {initial : Bool} {s
 
       -- What `row_value` requires.
       pub walk-asks : IsBinary inputs
-          → (RowReady f row × ((place ≡ rowOffset row) × (byteAt f place ≡ byteAt f place)))
+          → (RowToRun f row × ((place ≡ rowOffset row) × (byteAt f place ≡ byteAt f place)))
           × (((byteAt f place ≡ 1 → base + used < length inputs) × IsBinary inputs) × ((current + row < length w) × ((previous + row < length w) × (NextBelow (length w - previous) (rowAt (netlistOf f) row) × IsBinary w))))
       walk-asks bin =
           let H = U .halves in (
@@ -83,11 +83,11 @@ module _ {f inputs : List ℕ} {base current previous : ℕ} {initial : Bool} {s
         pub walk-used : base + (used + o) ≤ length inputs
         walk-used = input-fits f (length (netlistOf f)) (B .netlist) base row place in-netlist walk-place inputs used (U .used-is) fit o eo
 
-        pub walk-more : {x : ℕ} → x ≡ ifKnown (byteAt f place) (bitByte (rowValue boolLogic (heldIn w previous initial row (rowAt (netlistOf f) row)) (λ l p. bitAt inputs (base + used)) (bitFrom w current) (rowAt (netlistOf f) row))) noValue
+        pub walk-more : {x : ℕ} → x ≡ ifKnown (byteAt f place) (bitByte (rowValue boolLogic (heldIn w previous initial row (rowAt (netlistOf f) row)) (λ l p. truthAt inputs (base + used)) (bitFrom w current) (rowAt (netlistOf f) row))) noValue
             → Walked f inputs base current previous initial start first w₀ (set w (current + row) x) (row + 1) (place + 8) (used + o)
         walk-more {x} answer =
             let n = length (netlistOf f) in
-            let y = rowValue boolLogic (heldIn w previous initial row (rowAt (netlistOf f) row)) (λ l p. bitAt inputs (base + used)) (bitFrom w current) (rowAt (netlistOf f) row) in
+            let y = rowValue boolLogic (heldIn w previous initial row (rowAt (netlistOf f) row)) (λ l p. truthAt inputs (base + used)) (bitFrom w current) (rowAt (netlistOf f) row) in
             let ex : x ≡ bitByte y = answer ∙ kind-known (byteAt f place) (bitByte y) noValue walk-known in
             record {
               from = omega (arith, U .from);

@@ -16,7 +16,7 @@ use Rattle.blockfile.specs.Ready.{Ready}
 use Rattle.simulate.specs.Values.{IsBinary, bitBytes, stateFrom, valuesBefore, shownBytes}
 
 -- Row i stands in the file, the operands of a gate and an output's literal name rows before it, and a register's reset is in range.
-pub record RowReady (f : List ℕ) (i : ℕ) : Type 0 where
+pub record RowToRun (f : List ℕ) (i : ℕ) : Type 0 where
   pub few : i < mostRows
   pub inside : rowOffset i + 8 ≤ length f
   pub row-is : rowAt (netlistOf f) i ≡ decodeRow (readFields f i)
@@ -29,7 +29,7 @@ pub record NetlistReady (f : List ℕ) (n : ℕ) : Type 0 where
   pub checked : CheckedRows (netlistOf f)
 
 -- Memory for the values of n rows twice, from byte 0 on and from `half` on.
-pub record WorkReady (n half : ℕ) (work : List ℕ) : Type 0 where
+pub record ValuesRoom (n half : ℕ) (work : List ℕ) : Type 0 where
   pub rows-fit : n ≤ half
   pub halves-fit : half + half ≤ length work
   pub binary : IsBinary work
@@ -64,7 +64,7 @@ pub record Given (f : List ℕ) (n nodes ins T : ℕ) (choices inputs : List ℕ
   pub input-count : length inputs ≡ T * ins
   pub input-values : IsBinary inputs
   pub result-holds : T * countIf isOutput (netlistOf f) ≤ result
-  pub work-ready : WorkReady n half work
+  pub work-ready : ValuesRoom n half work
 
 -- One step: from memory v and result r₀ to memory w and result r, vs the rows' values in it. They stand from `current` on, the outputs' bytes from `to` on.
 pub record Stepped (rows : List Row) (vs : List Bool) (current to : ℕ) (v w r₀ r : List ℕ) : Type 0 where

@@ -1,5 +1,5 @@
 -- Values in lent memory, a byte 0 or 1 each: a state, the inputs of a step, the choices.
--- Interface: IsBinary, bit, bitAt, bitFrom, bitByte, bitBytes, noValue, heldIn, stateFrom, stepInputs, resetChoices, valuesBefore, valuesFrom, shownBytes.
+-- Interface: IsBinary, bit, truthAt, bitFrom, bitByte, bitBytes, noValue, heldIn, stateFrom, stepInputs, resetChoices, valuesBefore, valuesFrom, shownBytes.
 -- Assumes nothing.
 use Prim.Native.Nat.{ℕ, _+_, _≤_}
 use mathlib.Core.Bool.{Bool, cond, not}
@@ -20,12 +20,12 @@ IsBinary s = (i : ℕ) → byteAt s i ≤ 1
 abbrev pub bit : ℕ → Bool
 bit n = not (eqb n 0)
 
-abbrev pub bitAt : List ℕ → ℕ → Bool
-bitAt s i = bit (byteAt s i)
+abbrev pub truthAt : List ℕ → ℕ → Bool
+truthAt s i = bit (byteAt s i)
 
 -- The value of row i, where the rows' values stand from `from` on.
 abbrev pub bitFrom : List ℕ → ℕ → ℕ → Bool
-bitFrom s from i = bitAt s (from + i)
+bitFrom s from i = truthAt s (from + i)
 
 abbrev pub bitByte : Bool → ℕ
 bitByte b = cond b 1 0
@@ -47,11 +47,11 @@ stateFrom rows work previous initial = tabulate (length rows) (λ i. heldIn work
 
 -- The inputs of the step whose bytes stand from `base` on, by label and phase.
 abbrev pub stepInputs : List Row → List ℕ → ℕ → ℕ → ℕ → Bool
-stepInputs rows inputs base l p = bitAt inputs (base + placeAmong isInput rows (rowNamed 1 l p rows))
+stepInputs rows inputs base l p = truthAt inputs (base + placeAmong isInput rows (rowNamed 1 l p rows))
 
 -- What the X registers start as, by label.
 abbrev pub resetChoices : List Row → List ℕ → ℕ → Bool
-resetChoices rows choices l = bitAt choices (placeAmong isUnknown rows (rowNamed 2 l 0 rows))
+resetChoices rows choices l = truthAt choices (placeAmong isUnknown rows (rowNamed 2 l 0 rows))
 
 -- The values of the first i rows in the step that begins with this state and whose inputs stand from `base` on.
 abbrev pub valuesBefore : List Row → List ℕ → ℕ → List Bool → ℕ → List Bool

@@ -15,8 +15,8 @@ ghost use Rattle.netlist.specs.Simulation.{boolLogic, boolXor, literalValue, ro
 ghost use Rattle.netlist.specs.RunLayout.{placeAmong, runBytes};
 ghost use Rattle.netlist.specs.WellFormed.{NextBelow};
 ghost use Rattle.blockfile.specs.RowCode.{ifKnown};
-ghost use Rattle.simulate.specs.Values.{IsBinary, bit, bitAt, bitFrom, bitByte, bitBytes, noValue, heldIn, stateFrom, resetChoices, valuesFrom};
-ghost use Rattle.simulate.specs.Steps.{RowReady, NetlistReady, WorkReady, TwoHalves, BlockRows, ValuesStand, Given, Stepped};
+ghost use Rattle.simulate.specs.Values.{IsBinary, bit, truthAt, bitFrom, bitByte, bitBytes, noValue, heldIn, stateFrom, resetChoices, valuesFrom};
+ghost use Rattle.simulate.specs.Steps.{RowToRun, NetlistReady, ValuesRoom, TwoHalves, BlockRows, ValuesStand, Given, Stepped};
 use blockfile::BLOCK_BYTES;
 use blockfile::BLOCK_ROWS;
 use blockfile::FIRST_ROW;
@@ -76,7 +76,7 @@ fn held_value(
     previous: usize,
     initial: bool,
 ) -> u8
-    requires { ⌜ RowReady (now file) row × ((place ≡ rowOffset row) × (byteAt (now file) place ≡ 2)) ⌝ }
+    requires { ⌜ RowToRun (now file) row × ((place ≡ rowOffset row) × (byteAt (now file) place ≡ 2)) ⌝ }
     requires { ⌜ (previous + row < length (now work)) × (NextBelow (length (now work) - previous) (rowAt (netlistOf (now file)) row) × IsBinary (now work)) ⌝ }
     ensures { λ r. ⌜ r ≡ bitByte (heldIn (now (work .entry)) previous initial row (rowAt (netlistOf (now (file .entry))) row)) ⌝ }
 {
@@ -102,10 +102,10 @@ fn row_value(
     previous: usize,
     initial: bool,
 ) -> u8
-    requires { ⌜ RowReady (now file) row × ((place ≡ rowOffset row) × (kind ≡ byteAt (now file) place)) ⌝ }
+    requires { ⌜ RowToRun (now file) row × ((place ≡ rowOffset row) × (kind ≡ byteAt (now file) place)) ⌝ }
     requires { ⌜ (kind ≡ 1 → input < length (now inputs)) × IsBinary (now inputs) ⌝ }
     requires { ⌜ (current + row < length (now work)) × ((previous + row < length (now work)) × (NextBelow (length (now work) - previous) (rowAt (netlistOf (now file)) row) × IsBinary (now work))) ⌝ }
-    ensures { λ r. ⌜ r ≡ ifKnown kind (bitByte (rowValue boolLogic (heldIn (now (work .entry)) previous initial row (rowAt (netlistOf (now (file .entry))) row)) (λ l p. bitAt (now (inputs .entry)) input) (bitFrom (now (work .entry)) current) (rowAt (netlistOf (now (file .entry))) row))) noValue ⌝ }
+    ensures { λ r. ⌜ r ≡ ifKnown kind (bitByte (rowValue boolLogic (heldIn (now (work .entry)) previous initial row (rowAt (netlistOf (now (file .entry))) row)) (λ l p. truthAt (now (inputs .entry)) input) (bitFrom (now (work .entry)) current) (rowAt (netlistOf (now (file .entry))) row))) noValue ⌝ }
 {
     let at_a = place + 2;
     let at_b = place + 4;
@@ -236,8 +236,8 @@ fn evaluate(
 
 // What the row starts as; 0 if it is no register. If its reset is unknown, its choice stands at `choice`.
 fn start_value(file: &[u8], row: usize, choices: &[u8], choice: usize) -> u8
-    requires { ⌜ RowReady (now file) row × ((isUnknown (rowAt (netlistOf (now file)) row) ≡ true → choice < length (now choices)) × IsBinary (now choices)) ⌝ }
-    ensures { λ r. ⌜ r ≡ bitByte (resetValue boolLogic (λ l. bitAt (now (choices .entry)) choice) (rowAt (netlistOf (now (file .entry))) row)) ⌝ }
+    requires { ⌜ RowToRun (now file) row × ((isUnknown (rowAt (netlistOf (now file)) row) ≡ true → choice < length (now choices)) × IsBinary (now choices)) ⌝ }
+    ensures { λ r. ⌜ r ≡ bitByte (resetValue boolLogic (λ l. truthAt (now (choices .entry)) choice) (rowAt (netlistOf (now (file .entry))) row)) ⌝ }
 {
     let place = blockfile::row_place(row);
     let second = place + 1;
@@ -256,7 +256,7 @@ fn start_value(file: &[u8], row: usize, choices: &[u8], choice: usize) -> u8
 
 // 1 if the row is an X register, else 0.
 fn unknown_at(file: &[u8], row: usize) -> usize
-    requires { ⌜ RowReady (now file) row ⌝ }
+    requires { ⌜ RowToRun (now file) row ⌝ }
     ensures { λ r. ⌜ (r ≡ cond (isUnknown (rowAt (netlistOf (now (file .entry))) row)) 1 0) × (r ≤ 1) ⌝ }
 {
     let place = blockfile::row_place(row);
@@ -269,7 +269,7 @@ fn unknown_at(file: &[u8], row: usize) -> usize
 
 // Each register takes its first value.
 fn start(file: &[u8], rows: usize, choices: &[u8], work: &mut [u8], half: usize)
-    requires { ⌜ NetlistReady (now file) rows × WorkReady rows half (now work) ⌝ }
+    requires { ⌜ NetlistReady (now file) rows × ValuesRoom rows half (now work) ⌝ }
     requires { ⌜ IsBinary (now choices) × (countIf isUnknown (netlistOf (now file)) ≤ length (now choices)) ⌝ }
     ensures { λ _. ⌜ now (work .exit) ≡ sets (now (work .entry)) half (bitBytes (map (resetValue boolLogic (resetChoices (netlistOf (now (file .entry))) (now (choices .entry)))) (netlistOf (now (file .entry))))) ⌝ }
 {

@@ -39,7 +39,7 @@ const MUX: [u8; 27] = [
     2,
 ];
 
-pub fn lookup_and(a: u8, b: u8) -> u8
+pub fn and_code(a: u8, b: u8) -> u8
     requires { ⌜ (a < 3) × (b < 3) ⌝ }
     ensures { λ r. ⌜ r ≡ codeOf (and3 (valueOf a) (valueOf b)) ⌝ }
 {
@@ -47,7 +47,7 @@ pub fn lookup_and(a: u8, b: u8) -> u8
     AND[place]
 }
 
-pub fn lookup_xor(a: u8, b: u8) -> u8
+pub fn xor_code(a: u8, b: u8) -> u8
     requires { ⌜ (a < 3) × (b < 3) ⌝ }
     ensures { λ r. ⌜ r ≡ codeOf (xor3 (valueOf a) (valueOf b)) ⌝ }
 {
@@ -55,7 +55,7 @@ pub fn lookup_xor(a: u8, b: u8) -> u8
     XOR[place]
 }
 
-pub fn lookup_mux(s: u8, b: u8, c: u8) -> u8
+pub fn mux_code(s: u8, b: u8, c: u8) -> u8
     requires { ⌜ (s < 3) × ((b < 3) × (c < 3)) ⌝ }
     ensures { λ r. ⌜ r ≡ codeOf (mux3 (valueOf s) (valueOf b) (valueOf c)) ⌝ }
 {

@@ -16,26 +16,14 @@ use Rattle.accept.proofs.accept.Tie as tie
 whole : (c : tie.Else1) → lengthRight (c .before .before .before .args .file .now) ≡ true
 whole c = sym (c .before .length-right .ensures) ∙ not-false (c .before .length-right .result) (c .if1 .left)
 
-length-right-requires : tie.Need-length-right-requires
-length-right-requires c κs = search needs
-
 returns : tie.Need-returns
 returns c = length-no (c .before .before .before .args .file .now) (sym (c .before .length-right .ensures) ∙ not-true (c .before .length-right .result) (c .if1 .taken))
 
 check-blocks-requires : tie.Need-check-blocks-requires
 check-blocks-requires c κs = let w = lengthRight-iff (c .before .before .before .args .file .now) .0 (whole c) in (w .whole, w .few-blocks)
 
-enum-known-refusal : tie.Need-enum-known-refusal
-enum-known-refusal c = search needs
-
-enum-told : tie.Need-enum-told
-enum-told c = search needs
-
 count-rows-requires : tie.Need-count-rows-requires
 count-rows-requires c κs = blocks-right (c .before .before .before .before .before .before .args .file .now) (whole (c .before .before .before)) (sym (c .before .before .check-blocks .ensures) ∙ ap acceptRefusal (c .enum-told .given .1))
-
-check-rows-requires : tie.Need-check-rows-requires
-check-rows-requires c κs = search needs
 
 returns-2 : tie.Need-returns-2
 returns-2 c = blocks-no (c .before .before .before .before .before .before .before .args .file .now) (whole (c .before .before .before .before)) (c .before .before .before .check-blocks .result) (c .before .refusal .given .0 .0) (c .before .refusal .given .1) (c .before .before .before .check-blocks .ensures)
@@ -46,13 +34,5 @@ returns-3 c = rows-last (c .before .before .before .before .before .before .befo
 pub accept-spec : {M : Type 1} → statement M
 accept-spec =
     tie.close
-    (tie.spec
-    length-right-requires
-    returns
-    check-blocks-requires
-    enum-known-refusal
-    enum-told
-    count-rows-requires
-    check-rows-requires
-    returns-2
-    returns-3)
+    (tie.spec (λ c κs. search needs) returns check-blocks-requires (λ c. search needs) (λ c. search needs) count-rows-requires
+    (λ c κs. search needs) returns-2 returns-3)

@@ -5,12 +5,6 @@ use borrow.Author.Needs.{needs}
 use Rattle.accept.proofs.bit_of.Statement.{statement}
 use Rattle.accept.proofs.bit_of.Tie as tie
 
-mul-apart : tie.Need-mul-apart
-mul-apart c = search needs
-
-add-moved : tie.Need-add-moved
-add-moved c = search needs
-
 returns : tie.Need-returns
 returns c = rw (c .if1 .taken) refl
 
@@ -18,4 +12,6 @@ returns-2 : tie.Need-returns-2
 returns-2 c = rw (c .if1 .left) refl
 
 pub bit-of-spec : {M : Type 1} → statement M
-bit-of-spec = tie.close (tie.spec mul-apart add-moved returns returns-2)
+bit-of-spec =
+    tie.close
+    (tie.spec (λ c. search needs) (λ c. search needs) returns returns-2)

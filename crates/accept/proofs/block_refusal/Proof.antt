@@ -4,27 +4,6 @@ use borrow.Author.Needs.{needs}
 use Rattle.accept.proofs.block_refusal.Statement.{statement}
 use Rattle.accept.proofs.block_refusal.Tie as tie
 
-cast-block : tie.Need-cast-block
-cast-block c = search needs
-
-enum-told : tie.Need-enum-told
-enum-told c = search needs
-
-enum-told-2 : tie.Need-enum-told-2
-enum-told-2 c = search needs
-
-enum-told-3 : tie.Need-enum-told-3
-enum-told-3 c = search needs
-
-enum-told-4 : tie.Need-enum-told-4
-enum-told-4 c = search needs
-
-enum-told-5 : tie.Need-enum-told-5
-enum-told-5 c = search needs
-
-returns : tie.Need-returns
-returns c = search needs
-
 returns-2 : tie.Need-returns-2
 returns-2 c = rw (c .enum-told2 .given .1)
 
@@ -40,15 +19,5 @@ returns-5 c = rw (c .enum-told5 .given .1)
 pub block-refusal-spec : {M : Type 1} → statement M
 block-refusal-spec =
     tie.close
-    (tie.spec
-    cast-block
-    enum-told
-    enum-told-2
-    enum-told-3
-    enum-told-4
-    enum-told-5
-    returns
-    returns-2
-    returns-3
-    returns-4
-    returns-5)
+    (tie.spec (λ c. search needs) (λ c. search needs) (λ c. search needs) (λ c. search needs) (λ c. search needs) (λ c. search needs)
+    (λ c. search needs) returns-2 returns-3 returns-4 returns-5)

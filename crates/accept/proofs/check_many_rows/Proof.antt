@@ -4,6 +4,7 @@ use Prim.Native.Nat.{ℕ}
 use mathlib.Core.Bool.{false}
 use lib.ListN.{length-replicate}
 use Rattle.accept.specs.Marks.{markBytes}
+use borrow.Author.Needs.{needs}
 use Rattle.accept.proofs.check_many_rows.Statement.{statement}
 use Rattle.accept.proofs.check_many_rows.Tie as tie
 
@@ -11,10 +12,10 @@ slice-aggregate-check-each-row : tie.Need-slice-aggregate-check-each-row
 slice-aggregate-check-each-row c = length-replicate {A = ℕ} (markBytes false) 0
 
 check-each-row-requires : tie.Need-check-each-row-requires
-check-each-row-requires c κs = (c .before .before .pre, length-replicate {A = ℕ} (markBytes false) 0)
+check-each-row-requires c κs = search needs
 
 returns : tie.Need-returns
-returns c = c .before .check-each-row .ensures
+returns c = search needs
 
 pub check-many-rows-spec : {M : Type 1} → statement M
 check-many-rows-spec =

@@ -11,12 +11,6 @@ asked c =
     let p = c .before .before .before .pre in
     record { bytes = λ j. omega (arith, c .before .before .shared-slice-known .given j); within = omega (arith, p .0 .0 .counted, p .0 .1 .0); read = p .0 .1 .1 .0; nodes = p .1 .0; tests = c .test-row .ensures }
 
-test-row-requires : tie.Need-test-row-requires
-test-row-requires c κs = search needs
-
-cast-place : tie.Need-cast-place
-cast-place c = search needs
-
 returns : tie.Need-returns
 returns c = no-kind (asked (c .before .before)) (c .if1 .taken)
 
@@ -30,20 +24,11 @@ label-is-new-requires c κs =
     let fields = c .before .if2 .left in
     (search needs, ((named-is A kind fields, (slot-is A kind fields, slot-fits A kind fields)), c .before .before .before .before .before .before .before .before .pre .1 .1))
 
-same-length : tie.Need-same-length
-same-length c = search needs
-
 returns-3 : tie.Need-returns-3
 returns-3 c = no-label (asked (c .before .before .before .before .before .before .before .before .before)) (c .before .before .before .before .before .before .before .if1 .left) (c .before .before .before .before .before .if2 .left) (c .before .before .before .label-is-new .ensures .0) (c .if3 .taken)
 
-same-length-2 : tie.Need-same-length-2
-same-length-2 c = search needs
-
 returns-4 : tie.Need-returns-4
 returns-4 c = no-literal (asked (c .before .before .before .before .before .before .before .before .before .before .before)) (c .before .before .before .before .before .before .before .before .before .if1 .left) (c .before .before .before .before .before .before .before .if2 .left) (c .before .before .before .before .before .label-is-new .ensures .0) (c .before .before .if3 .left) (c .if4 .taken)
-
-same-length-3 : tie.Need-same-length-3
-same-length-3 c = search needs
 
 returns-5 : tie.Need-returns-5
 returns-5 c = row-right (asked (c .before .before .before .before .before .before .before .before .before .before .before)) (c .before .before .before .before .before .before .before .before .before .if1 .left) (c .before .before .before .before .before .before .before .if2 .left) (c .before .before .before .before .before .label-is-new .ensures .0) (c .before .before .if3 .left) (c .if4 .left) (c .before .before .before .before .before .label-is-new .ensures .1)
@@ -51,15 +36,5 @@ returns-5 c = row-right (asked (c .before .before .before .before .before .befor
 pub check-row-spec : {M : Type 1} → statement M
 check-row-spec =
     tie.close
-    (tie.spec
-    test-row-requires
-    cast-place
-    returns
-    returns-2
-    label-is-new-requires
-    same-length
-    returns-3
-    same-length-2
-    returns-4
-    same-length-3
-    returns-5)
+    (tie.spec (λ c κs. search needs) (λ c. search needs) returns returns-2 label-is-new-requires (λ c. search needs) returns-3
+    (λ c. search needs) returns-4 (λ c. search needs) returns-5)

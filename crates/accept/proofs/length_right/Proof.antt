@@ -4,14 +4,10 @@ use borrow.Author.Needs.{needs}
 use Rattle.accept.proofs.length_right.Statement.{statement}
 use Rattle.accept.proofs.length_right.Tie as tie
 
-both-requires : tie.Need-both-requires
-both-requires c κs = search needs
-
-both-requires-2 : tie.Need-both-requires-2
-both-requires-2 c κs = search needs
-
 returns : tie.Need-returns
 returns c = rw (c .both2 .ensures, c .before .both .ensures)
 
 pub length-right-spec : {M : Type 1} → statement M
-length-right-spec = tie.close (tie.spec both-requires both-requires-2 returns)
+length-right-spec =
+    tie.close
+    (tie.spec (λ c κs. search needs) (λ c κs. search needs) returns)

@@ -8,7 +8,7 @@ use Rattle.accept.proofs.row_count.Statement.{statement}
 use Rattle.accept.proofs.row_count.Tie as tie
 
 count-rows-requires : tie.Need-count-rows-requires
-count-rows-requires c κs = accepted-blocks (c .before .args .file .now) (c .before .pre)
+count-rows-requires c κs = search accepted-blocks
 
 returns : tie.Need-returns
 returns c = let f = c .before .before .args .file .now in

@@ -7,21 +7,6 @@ use Rattle.accept.proofs.NameLaws.{same-input, same-register, same-outp
 use Rattle.accept.proofs.same_name.Statement.{statement}
 use Rattle.accept.proofs.same_name.Tie as tie
 
-both-requires : tie.Need-both-requires
-both-requires c κs = search needs
-
-both-requires-2 : tie.Need-both-requires-2
-both-requires-2 c κs = search needs
-
-both-requires-3 : tie.Need-both-requires-3
-both-requires-3 c κs = search needs
-
-both-requires-4 : tie.Need-both-requires-4
-both-requires-4 c κs = search needs
-
-both-requires-5 : tie.Need-both-requires-5
-both-requires-5 c κs = search needs
-
 returns : tie.Need-returns
 returns c = rw (c .both2 .ensures, c .before .before .before .both .ensures) (same-input (fieldsIn (c .before .before .before .before .before .before .before .before .args .x)) (fieldsIn (c .before .before .before .before .before .before .before .before .args .y)) (c .before .before .before .before .before .before .before .match .keys1))
 
@@ -32,18 +17,10 @@ returns-3 : tie.Need-returns-3
 returns-3 c = rw (c .both5 .ensures, c .before .before .before .both4 .ensures) (same-output (fieldsIn (c .before .before .before .before .before .before .before .before .args .x)) (fieldsIn (c .before .before .before .before .before .before .before .before .args .y)) (c .before .before .before .before .before .before .before .match .keys3))
 
 returns-4 : tie.Need-returns-4
-returns-4 c = let m = c .match .rest in same-none (fieldsIn (c .before .args .x)) (fieldsIn (c .before .args .y)) (m .0 .0 .1) (m .0 .1) (m .1)
+returns-4 c = search same-none
 
 pub same-name-spec : {M : Type 1} → statement M
 same-name-spec =
     tie.close
-    (tie.spec
-    both-requires
-    both-requires-2
-    both-requires-3
-    both-requires-4
-    both-requires-5
-    returns
-    returns-2
-    returns-3
-    returns-4)
+    (tie.spec (λ c κs. search needs) (λ c κs. search needs) (λ c κs. search needs) (λ c κs. search needs) (λ c κs. search needs)
+    returns returns-2 returns-3 returns-4)

@@ -10,14 +10,10 @@ use Rattle.blockfile.proofs.read_row.Lts as lts
 use Rattle.blockfile.proofs.read_at.Reads as read-at-reads
 use Rattle.blockfile.proofs.row_place.Reads as row-place-reads
 
-row-place-requires : tie.Need-row-place-requires
-row-place-requires c κs = search needs
-
-read-at-requires : tie.Need-read-at-requires
-read-at-requires c κs = search needs
-
 returns : tie.Need-returns
 returns c = ((c .read-at .ensures .0) ∙ ap (fieldsFrom (c .before .before .before .args .file .now)) (c .before .row-place .ensures), (c .read-at .ensures .1))
 
 pub read-row-spec : {M : Type 1} → statement M
-read-row-spec = tie.close (tie.spec row-place-requires read-at-requires returns)
+read-row-spec =
+    tie.close
+    (tie.spec (λ c κs. search needs) (λ c κs. search needs) returns)

@@ -11,43 +11,16 @@ use Rattle.blockfile.proofs.RowCodeLaws.{row-written}
 use Rattle.blockfile.proofs.write_row.Statement.{statement}
 use Rattle.blockfile.proofs.write_row.Tie as tie
 
-row-place-requires : tie.Need-row-place-requires
-row-place-requires c κs = search needs
-
-add-second : tie.Need-add-second
-add-second c = search needs
-
-add-at-a : tie.Need-add-at-a
-add-at-a c = search needs
-
-add-at-b : tie.Need-add-at-b
-add-at-b c = search needs
-
-add-at-c : tie.Need-add-at-c
-add-at-c c = search needs
-
-slice-write-buffer : tie.Need-slice-write-buffer
-slice-write-buffer c = search needs
-
 slice-write-buffer-2 : tie.Need-slice-write-buffer-2
 slice-write-buffer-2 c = simp length-set (omega (arith, c .row-place .ensures))
 
-cast-write-u16 : tie.Need-cast-write-u16
-cast-write-u16 c = search needs
-
 write-u16-requires : tie.Need-write-u16-requires
 write-u16-requires c κs = simp length-set (omega (arith, c .before .before .row-place .ensures))
-
-cast-write-u16-2 : tie.Need-cast-write-u16-2
-cast-write-u16-2 c = search needs
 
 write-u16-requires-2 : tie.Need-write-u16-requires-2
 write-u16-requires-2 c κs =
     let write-u16 = c .before .before .before .before .write-u16 in
     let e : length (write-u16 .last .0) ≡ length (c .before .before .before .before .before .before .before .before .before .args .buffer .now) = write-u16 .kept .0 ∙ simp length-set in omega (arith, c .before .before .before .before .before .before .before .row-place .ensures)
-
-cast-write-u16-3 : tie.Need-cast-write-u16-3
-cast-write-u16-3 c = search needs
 
 write-u16-requires-3 : tie.Need-write-u16-requires-3
 write-u16-requires-3 c κs =
@@ -69,19 +42,6 @@ returns c =
 pub write-row-spec : {M : Type 1} → statement M
 write-row-spec =
     tie.close
-    (tie.spec
-    row-place-requires
-    add-second
-    add-at-a
-    add-at-b
-    add-at-c
-    slice-write-buffer
-    slice-write-buffer-2
-    cast-write-u16
-    write-u16-requires
-    cast-write-u16-2
-    write-u16-requires-2
-    cast-write-u16-3
-    write-u16-requires-3
-    same-length
-    returns)
+    (tie.spec (λ c κs. search needs) (λ c. search needs) (λ c. search needs) (λ c. search needs) (λ c. search needs)
+    (λ c. search needs) slice-write-buffer-2 (λ c. search needs) write-u16-requires (λ c. search needs) write-u16-requires-2
+    (λ c. search needs) write-u16-requires-3 same-length returns)

@@ -8,36 +8,6 @@ use Rattle.compaction.proofs.SlotLaws.{slotsAfter, slots-outside, slots
 use Rattle.compaction.proofs.compact_rows.Statement.{statement}
 use Rattle.compaction.proofs.compact_rows.Tie as tie
 
-sub-mark-rows : tie.Need-sub-mark-rows
-sub-mark-rows c = search needs
-
-part-mark-rows-start : tie.Need-part-mark-rows-start
-part-mark-rows-start c = search needs
-
-part-mark-rows-end : tie.Need-part-mark-rows-end
-part-mark-rows-end c = search needs
-
-mark-rows-requires : tie.Need-mark-rows-requires
-mark-rows-requires c κs = search needs
-
-sub-move-rows : tie.Need-sub-move-rows
-sub-move-rows c = search needs
-
-part-move-rows-start : tie.Need-part-move-rows-start
-part-move-rows-start c = search needs
-
-part-move-rows-end : tie.Need-part-move-rows-end
-part-move-rows-end c = search needs
-
-move-rows-requires : tie.Need-move-rows-requires
-move-rows-requires c κs = search needs
-
-same-length : tie.Need-same-length
-same-length c = search needs
-
-same-length-2 : tie.Need-same-length-2
-same-length-2 c = search needs
-
 returns : tie.Need-returns
 returns c =
     let args = c .before .before .before .before .before .before .before .before .before .before .before .before .before .args in
@@ -54,15 +24,5 @@ returns c =
 pub compact-rows-spec : {M : Type 1} → statement M
 compact-rows-spec =
     tie.close
-    (tie.spec
-    sub-mark-rows
-    part-mark-rows-start
-    part-mark-rows-end
-    mark-rows-requires
-    sub-move-rows
-    part-move-rows-start
-    part-move-rows-end
-    move-rows-requires
-    same-length
-    same-length-2
-    returns)
+    (tie.spec (λ c. search needs) (λ c. search needs) (λ c. search needs) (λ c κs. search needs) (λ c. search needs)
+    (λ c. search needs) (λ c. search needs) (λ c κs. search needs) (λ c. search needs) (λ c. search needs) returns)

@@ -9,47 +9,14 @@ use Rattle.compaction.proofs.SlotLaws.{pushed-none, pushed-cons}
 use Rattle.compaction.proofs.find_fanins.Statement.{statement}
 use Rattle.compaction.proofs.find_fanins.Tie as tie
 
-literal-count-requires : tie.Need-literal-count-requires
-literal-count-requires c κs = search needs
-
 returns : tie.Need-returns
-returns c =
-    let args = c .before .before .before .args in
-    found-of (args .slots .now) (args .slots .now) (args .rows) (args .found) (args .found) (args .row .kind) (args .row .reset) (args .row .a) (args .row .b) (args .row .c) (c .before .literal-count .result) 0 (c .before .literal-count .ensures .0) (c .if1 .taken) (pushed-none (args .slots .now) (args .rows) (args .found) (c .before .before .before .pre .1))
-
-find-row-requires : tie.Need-find-row-requires
-find-row-requires c κs = search needs
-
-same-length : tie.Need-same-length
-same-length c = search needs
+returns c = search (found-of, pushed-none, needs)
 
 returns-2 : tie.Need-returns-2
-returns-2 c =
-    let args = c .before .before .before .before .before .before .before .before .before .args in
-    let find-row = c .before .before .before .find-row in
-    let literal-count = c .before .before .before .before .before .before .before .literal-count in
-    found-of (args .slots .now) (find-row .last .0) (args .rows) (args .found) (find-row .result) (args .row .kind) (args .row .reset) (args .row .a) (args .row .b) (args .row .c) (literal-count .result) 1 (literal-count .ensures .0) (c .if2 .taken) (find-row .ensures)
-
-find-row-requires-2 : tie.Need-find-row-requires-2
-find-row-requires-2 c κs = search needs
-
-same-length-2 : tie.Need-same-length-2
-same-length-2 c = search needs
+returns-2 c = search found-of
 
 returns-3 : tie.Need-returns-3
-returns-3 c =
-    let args = c .before .before .before .before .before .before .before .before .before .before .before .before .before .before .before .args in
-    let find-row2 = c .before .before .before .find-row2 in
-    let literal-count = c .before .before .before .before .before .before .before .before .before .before .before .before .before .literal-count in
-    let find-row = c .before .before .before .before .before .before .before .before .before .find-row in
-    found-of (args .slots .now) (find-row2 .last .0) (args .rows) (args .found) (find-row2 .result) (args .row .kind) (args .row .reset) (args .row .a) (args .row .b) (args .row .c) (literal-count .result) 2 (literal-count .ensures .0) (c .if3 .taken)
-    (pushed-cons (args .slots .now) (find-row .last .0) (find-row2 .last .0) (args .rows) (args .found) (find-row .result) (find-row2 .result) (args .row .a / 2) (args .row .b / 2 ∷ []) (find-row .ensures) (find-row2 .ensures))
-
-find-row-requires-3 : tie.Need-find-row-requires-3
-find-row-requires-3 c κs = search needs
-
-same-length-3 : tie.Need-same-length-3
-same-length-3 c = search needs
+returns-3 c = search (found-of, pushed-cons, needs)
 
 returns-4 : tie.Need-returns-4
 returns-4 c =
@@ -65,15 +32,5 @@ returns-4 c =
 pub find-fanins-spec : {M : Type 1} → statement M
 find-fanins-spec =
     tie.close
-    (tie.spec
-    literal-count-requires
-    returns
-    find-row-requires
-    same-length
-    returns-2
-    find-row-requires-2
-    same-length-2
-    returns-3
-    find-row-requires-3
-    same-length-3
-    returns-4)
+    (tie.spec (λ c κs. search needs) returns (λ c κs. search needs) (λ c. search needs) returns-2 (λ c κs. search needs)
+    (λ c. search needs) returns-3 (λ c κs. search needs) (λ c. search needs) returns-4)

@@ -7,6 +7,7 @@ use lib.ListN.{length}
 use Rattle.abstraction.specs.Compaction.{faninNodes}
 use Rattle.compaction.specs.Compactable.{heldRow}
 use Rattle.compaction.specs.Slots.{Pushed}
+use borrow.Author.Needs.{needs}
 use Rattle.compaction.proofs.ConeSearch.{Reaching, reaching-start, reaching-next, reaching-end}
 use Rattle.compaction.proofs.SlotLaws.{found-le}
 use Rattle.compaction.proofs.find_reached.Statement.{statement}
@@ -19,10 +20,7 @@ abbrev μ-visits : tie.MeasureT-visits
 μ-visits result slots₀ rows roots found₀ visited₀ slots found visited = rows - visited
 
 visits-holds : tie.Need-visits-holds Inv-visits μ-visits
-visits-holds c =
-    let args = c .before .before .args in
-    let pre = c .before .before .pre in
-    (refl, reaching-start (args .result .now) (args .rows) (args .slots .now) (args .roots) (pre .1 .1 .0) (pre .1 .1 .1))
+visits-holds c = search reaching-start
 
 slot-at-requires : tie.Need-slot-at-requires Inv-visits μ-visits
 slot-at-requires c κs =
@@ -35,9 +33,7 @@ visit-row-requires c κs =
     ((omega (arith, visits .inv .1 .found .marked (visits .visited) (c .before .before .before .visits-test .taken) .0, c .before .slot-at .ensures .0), (omega arith, omega arith)), (c .before .before .before .before .before .before .before .pre .1 .0, visits .inv .1 .found))
 
 add-visited : tie.Need-add-visited Inv-visits μ-visits
-add-visited c =
-    let visits = c .before .before .before .before .before .before .before .visits in
-    let z = found-le (visits .slots) (c .before .before .before .before .before .before .before .before .before .before .args .rows) (visits .found) (visits .inv .1 .found) in omega arith
+add-visited c = search (found-le, needs)
 
 visits-less : tie.Need-visits-less Inv-visits μ-visits
 visits-less c =
@@ -55,12 +51,10 @@ visits-again c =
     )
 
 same-length : tie.Need-same-length Inv-visits μ-visits
-same-length c = c .before .visits .inv .0
+same-length c = search needs
 
 returns : tie.Need-returns Inv-visits μ-visits
-returns c =
-    let args = c .before .before .before .before .args in
-    reaching-end (args .result .now) (args .rows) (c .before .visits .slots) (c .before .visits .visited) (c .before .visits .found) (c .visits-test .left) (c .before .visits .inv .1)
+returns c = search reaching-end
 
 pub find-reached-spec : {M : Type 1} → statement M
 find-reached-spec =

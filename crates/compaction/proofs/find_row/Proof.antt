@@ -7,23 +7,12 @@ use Rattle.compaction.proofs.find_row.Statement.{statement}
 use Rattle.compaction.proofs.find_row.Tie as tie
 
 returns : tie.Need-returns
-returns c =
-    let args = c .before .before .args in
-    pushed-out (args .slots .now) (args .rows) (args .found) (c .before .before .pre .1) (args .row) (c .if1 .taken)
-
-slot-at-requires : tie.Need-slot-at-requires
-slot-at-requires c κs = search needs
-
-same-length : tie.Need-same-length
-same-length c = search needs
+returns c = search pushed-out
 
 returns-2 : tie.Need-returns-2
 returns-2 c =
     let args = c .before .before .before .before .before .args in
     pushed-old (args .slots .now) (args .rows) (args .found) (c .before .before .before .before .before .pre .1) (args .row) (c .before .before .before .if1 .left) (mark-yes (args .slots .now) (args .row) (omega (arith, c .before .slot-at .ensures .0)))
-
-mark-row-requires : tie.Need-mark-row-requires
-mark-row-requires c κs = search needs
 
 list-row-requires : tie.Need-list-row-requires
 list-row-requires c κs =
@@ -35,9 +24,6 @@ add-result c =
     let args = c .before .before .before .before .before .before .before .before .before .before .before .before .before .args in
     let z = found-room (args .slots .now) (args .rows) (args .found) (c .before .before .before .before .before .before .before .before .before .before .before .before .before .pre .1) (args .row) (c .before .before .before .before .before .before .before .before .before .before .before .if1 .left) (mark-no (args .slots .now) (args .row) (omega (arith, c .before .before .before .before .before .before .before .before .before .slot-at .ensures .0))) in omega arith
 
-same-length-2 : tie.Need-same-length-2
-same-length-2 c = search needs
-
 returns-3 : tie.Need-returns-3
 returns-3 c =
     let args = c .before .before .before .before .before .before .before .before .before .before .before .before .before .args in
@@ -48,13 +34,5 @@ returns-3 c =
 pub find-row-spec : {M : Type 1} → statement M
 find-row-spec =
     tie.close
-    (tie.spec
-    returns
-    slot-at-requires
-    same-length
-    returns-2
-    mark-row-requires
-    list-row-requires
-    add-result
-    same-length-2
-    returns-3)
+    (tie.spec returns (λ c κs. search needs) (λ c. search needs) returns-2 (λ c κs. search needs) list-row-requires add-result
+    (λ c. search needs) returns-3)

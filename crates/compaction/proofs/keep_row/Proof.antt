@@ -7,22 +7,10 @@ use Rattle.compaction.proofs.SlotLaws.{mark-yes, mark-no}
 use Rattle.compaction.proofs.keep_row.Statement.{statement}
 use Rattle.compaction.proofs.keep_row.Tie as tie
 
-slot-at-requires : tie.Need-slot-at-requires
-slot-at-requires c κs = search needs
-
 returns : tie.Need-returns
 returns c =
     let args = c .before .before .before .before .args in
     kept-no (args .result .now) (args .slots .now) (args .row) (args .to) (mark-no (args .slots .now) (args .row) (omega (arith, c .before .slot-at .ensures .0)))
-
-move-row-requires : tie.Need-move-row-requires
-move-row-requires c κs = search needs
-
-add-result : tie.Need-add-result
-add-result c = search needs
-
-same-length : tie.Need-same-length
-same-length c = search needs
 
 returns-2 : tie.Need-returns-2
 returns-2 c =
@@ -33,4 +21,4 @@ returns-2 c =
 pub keep-row-spec : {M : Type 1} → statement M
 keep-row-spec =
     tie.close
-    (tie.spec slot-at-requires returns move-row-requires add-result same-length returns-2)
+    (tie.spec (λ c κs. search needs) returns (λ c κs. search needs) (λ c. search needs) (λ c. search needs) returns-2)

@@ -7,21 +7,6 @@ use Rattle.compaction.proofs.SlotLaws.{listed-is}
 use Rattle.compaction.proofs.list_row.Statement.{statement}
 use Rattle.compaction.proofs.list_row.Tie as tie
 
-slot-at-requires : tie.Need-slot-at-requires
-slot-at-requires c κs = search needs
-
-mul-mark : tie.Need-mul-mark
-mul-mark c = search needs
-
-add-set-slot : tie.Need-add-set-slot
-add-set-slot c = search needs
-
-set-slot-requires : tie.Need-set-slot-requires
-set-slot-requires c κs = search needs
-
-same-length : tie.Need-same-length
-same-length c = search needs
-
 returns : tie.Need-returns
 returns c =
     let args = c .before .before .before .before .before .before .before .args in
@@ -33,4 +18,4 @@ returns c =
 pub list-row-spec : {M : Type 1} → statement M
 list-row-spec =
     tie.close
-    (tie.spec slot-at-requires mul-mark add-set-slot set-slot-requires same-length returns)
+    (tie.spec (λ c κs. search needs) (λ c. search needs) (λ c. search needs) (λ c κs. search needs) (λ c. search needs) returns)

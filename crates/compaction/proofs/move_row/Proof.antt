@@ -9,18 +9,6 @@ use Rattle.compaction.specs.Moves.{renumberFields, renumberIn}
 use Rattle.compaction.proofs.move_row.Statement.{statement}
 use Rattle.compaction.proofs.move_row.Tie as tie
 
-read-row-requires : tie.Need-read-row-requires
-read-row-requires c κs = search needs
-
-renumber-row-requires : tie.Need-renumber-row-requires
-renumber-row-requires c κs = search needs
-
-write-row-requires : tie.Need-write-row-requires
-write-row-requires c κs = search needs
-
-same-length : tie.Need-same-length
-same-length c = search needs
-
 returns : tie.Need-returns
 returns c =
     let args = c .before .before .before .before .before .before .before .before .before .args in
@@ -29,4 +17,4 @@ returns c =
 pub move-row-spec : {M : Type 1} → statement M
 move-row-spec =
     tie.close
-    (tie.spec read-row-requires renumber-row-requires write-row-requires same-length returns)
+    (tie.spec (λ c κs. search needs) (λ c κs. search needs) (λ c κs. search needs) (λ c. search needs) returns)

@@ -4,6 +4,7 @@ use Prim.Native.Nat.{_-_, _≤_}
 use mathlib.Core.Path.{_≡_, refl, _∙_}
 use native.Mathlib.Omega.{arith}
 use lib.ListN.{length}
+use borrow.Author.Needs.{needs}
 use Rattle.compaction.proofs.SlotLaws.{Numbering, numbering-none, numbering-le, numbering-more, numbering-done}
 use Rattle.compaction.proofs.number_rows.Statement.{statement}
 use Rattle.compaction.proofs.number_rows.Tie as tie
@@ -15,19 +16,13 @@ abbrev μ-rows : tie.MeasureT-rows
 μ-rows slots₀ rows number₀ row₀ slots number row = rows - row
 
 rows-holds : tie.Need-rows-holds Inv-rows μ-rows
-rows-holds c = (omega arith, (refl, numbering-none (c .before .args .slots .now) (c .before .args .rows)))
+rows-holds c = search (numbering-none, needs)
 
 number-row-requires : tie.Need-number-row-requires Inv-rows μ-rows
 number-row-requires c κs =
     let args = c .before .before .before .before .args in
     let rows = c .before .before .rows in
     let z = numbering-le (args .slots .now) (rows .slots) (args .rows) (rows .row) (rows .number) (rows .inv .1 .1) in (omega arith, omega arith)
-
-add-row : tie.Need-add-row Inv-rows μ-rows
-add-row c = omega arith
-
-rows-less : tie.Need-rows-less Inv-rows μ-rows
-rows-less c = omega arith
 
 rows-again : tie.Need-rows-again Inv-rows μ-rows
 rows-again c =
@@ -37,23 +32,12 @@ rows-again c =
     (omega arith, (number-row .kept .0 ∙ rows .inv .1 .0, numbering-more (args .slots .now) (rows .slots) (number-row .last .0) (args .rows) (rows .row) (rows .number) (number-row .result) (omega arith) (omega arith) (omega arith) (rows .inv .1 .1) (number-row .ensures .0) (number-row .ensures .1)))
 
 same-length : tie.Need-same-length Inv-rows μ-rows
-same-length c = c .before .rows .inv .1 .0
+same-length c = search needs
 
 returns : tie.Need-returns Inv-rows μ-rows
-returns c =
-    let args = c .before .before .before .args in
-    numbering-done (args .slots .now) (c .before .rows .slots) (args .rows) (c .before .rows .row) (c .before .rows .number) (omega arith) (c .before .rows .inv .1 .1)
+returns c = search numbering-done
 
 pub number-rows-spec : {M : Type 1} → statement M
 number-rows-spec =
     tie.close
-    (tie.spec
-    Inv-rows
-    μ-rows
-    rows-holds
-    number-row-requires
-    add-row
-    rows-less
-    rows-again
-    same-length
-    returns)
+    (tie.spec Inv-rows μ-rows rows-holds number-row-requires (λ c. omega arith) (λ c. omega arith) rows-again same-length returns)

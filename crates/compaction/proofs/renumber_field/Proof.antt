@@ -6,9 +6,6 @@ use borrow.Author.Needs.{needs}
 use Rattle.compaction.proofs.renumber_field.Statement.{statement}
 use Rattle.compaction.proofs.renumber_field.Tie as tie
 
-renumber-requires : tie.Need-renumber-requires
-renumber-requires c κs = search needs
-
 returns : tie.Need-returns
 returns c =
     let args = c .before .before .before .args in
@@ -20,4 +17,6 @@ returns-2 c =
     rw (le-ltb (args .place) (args .count) (c .if1 .left)) (refl, c .before .before .pre .0)
 
 pub renumber-field-spec : {M : Type 1} → statement M
-renumber-field-spec = tie.close (tie.spec renumber-requires returns returns-2)
+renumber-field-spec =
+    tie.close
+    (tie.spec (λ c κs. search needs) returns returns-2)

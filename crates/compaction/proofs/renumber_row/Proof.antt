@@ -5,18 +5,6 @@ use Rattle.compaction.proofs.MoveLaws.{row-renumbered}
 use Rattle.compaction.proofs.renumber_row.Statement.{statement}
 use Rattle.compaction.proofs.renumber_row.Tie as tie
 
-literal-count-requires : tie.Need-literal-count-requires
-literal-count-requires c κs = search needs
-
-renumber-field-requires : tie.Need-renumber-field-requires
-renumber-field-requires c κs = search needs
-
-renumber-field-requires-2 : tie.Need-renumber-field-requires-2
-renumber-field-requires-2 c κs = search needs
-
-renumber-field-requires-3 : tie.Need-renumber-field-requires-3
-renumber-field-requires-3 c κs = search needs
-
 returns : tie.Need-returns
 returns c =
     let args = c .before .before .before .before .before .args in
@@ -27,9 +15,4 @@ returns c =
 pub renumber-row-spec : {M : Type 1} → statement M
 renumber-row-spec =
     tie.close
-    (tie.spec
-    literal-count-requires
-    renumber-field-requires
-    renumber-field-requires-2
-    renumber-field-requires-3
-    returns)
+    (tie.spec (λ c κs. search needs) (λ c κs. search needs) (λ c κs. search needs) (λ c κs. search needs) returns)

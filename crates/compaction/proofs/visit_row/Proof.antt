@@ -8,15 +8,6 @@ use Rattle.compaction.specs.Slots.{Pushed}
 use Rattle.compaction.proofs.visit_row.Statement.{statement}
 use Rattle.compaction.proofs.visit_row.Tie as tie
 
-read-row-requires : tie.Need-read-row-requires
-read-row-requires c κs = search needs
-
-find-fanins-requires : tie.Need-find-fanins-requires
-find-fanins-requires c κs = search needs
-
-same-length : tie.Need-same-length
-same-length c = search needs
-
 returns : tie.Need-returns
 returns c =
     let args = c .before .before .before .before .before .before .before .args in
@@ -24,4 +15,6 @@ returns c =
     subst (λ (w : RowFields). Pushed (args .slots .now) (args .rows) (args .found) (faninNodes (decodeRow w)) (find-fanins .last .0) (find-fanins .result)) (c .before .before .before .before .read-row .ensures .0) (find-fanins .ensures)
 
 pub visit-row-spec : {M : Type 1} → statement M
-visit-row-spec = tie.close (tie.spec read-row-requires find-fanins-requires same-length returns)
+visit-row-spec =
+    tie.close
+    (tie.spec (λ c κs. search needs) (λ c κs. search needs) (λ c. search needs) returns)

@@ -13,37 +13,8 @@ Inv-designs tally₀ end design₀ tally design = length tally ≡ length tally�
 abbrev μ-designs : tie.MeasureT-designs
 μ-designs tally₀ end design₀ tally design = end - design
 
-designs-holds : tie.Need-designs-holds Inv-designs μ-designs
-designs-holds c = search needs
-
-try-design-requires : tie.Need-try-design-requires Inv-designs μ-designs
-try-design-requires c κs = search needs
-
-add-design : tie.Need-add-design Inv-designs μ-designs
-add-design c = search needs
-
-designs-less : tie.Need-designs-less Inv-designs μ-designs
-designs-less c = search needs
-
-designs-again : tie.Need-designs-again Inv-designs μ-designs
-designs-again c = search needs
-
-same-length : tie.Need-same-length Inv-designs μ-designs
-same-length c = search needs
-
-returns : tie.Need-returns Inv-designs μ-designs
-returns c = search needs
-
 pub try-designs-spec : {M : Type 1} → statement M
 try-designs-spec =
     tie.close
-    (tie.spec
-    Inv-designs
-    μ-designs
-    designs-holds
-    try-design-requires
-    add-design
-    designs-less
-    designs-again
-    same-length
-    returns)
+    (tie.spec Inv-designs μ-designs (λ c. search needs) (λ c κs. search needs) (λ c. search needs) (λ c. search needs)
+    (λ c. search needs) (λ c. search needs) (λ c. search needs))

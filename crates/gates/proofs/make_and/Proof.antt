@@ -11,9 +11,6 @@ returns c = search and-first-false
 returns-2 : tie.Need-returns-2
 returns-2 c = search and-second-false
 
-inverse-requires : tie.Need-inverse-requires
-inverse-requires c κs = search needs
-
 returns-3 : tie.Need-returns-3
 returns-3 c = search and-inverses
 
@@ -27,22 +24,10 @@ returns-5 c = search and-second-true
 returns-6 : tie.Need-returns-6
 returns-6 c = search and-equal
 
-pair-gate-requires : tie.Need-pair-gate-requires
-pair-gate-requires c κs = search needs
-
 returns-7 : tie.Need-returns-7
 returns-7 c = search and-new
 
 pub make-and-spec : {M : Type 1} → statement M
 make-and-spec =
     tie.close
-    (tie.spec
-    returns
-    returns-2
-    inverse-requires
-    returns-3
-    returns-4
-    returns-5
-    returns-6
-    pair-gate-requires
-    returns-7)
+    (tie.spec returns returns-2 (λ c κs. search needs) returns-3 returns-4 returns-5 returns-6 (λ c κs. search needs) returns-7)

@@ -14,17 +14,8 @@ returns-2 c = search mux-high
 returns-3 : tie.Need-returns-3
 returns-3 c = search mux-equal
 
-mux-gate-requires : tie.Need-mux-gate-requires
-mux-gate-requires c κs = search needs
-
 returns-4 : tie.Need-returns-4
 returns-4 c = search mux-new
-
-inverse-requires : tie.Need-inverse-requires
-inverse-requires c κs = search needs
-
-mux-gate-requires-2 : tie.Need-mux-gate-requires-2
-mux-gate-requires-2 c κs = search needs
 
 returns-5 : tie.Need-returns-5
 returns-5 c = search mux-swapped
@@ -32,12 +23,4 @@ returns-5 c = search mux-swapped
 pub make-mux-spec : {M : Type 1} → statement M
 make-mux-spec =
     tie.close
-    (tie.spec
-    returns
-    returns-2
-    returns-3
-    mux-gate-requires
-    returns-4
-    inverse-requires
-    mux-gate-requires-2
-    returns-5)
+    (tie.spec returns returns-2 returns-3 (λ c κs. search needs) returns-4 (λ c κs. search needs) (λ c κs. search needs) returns-5)

@@ -6,19 +6,10 @@ use Rattle.lasso_finder.proofs.analyse.Statement.{statement}
 use Rattle.lasso_finder.proofs.analyse.Tie as tie
 
 find-lasso-requires : tie.Need-find-lasso-requires
-find-lasso-requires c κs = ((c .before .before .before .pre .0), (c .before .before .before .pre .1 .1))
-
-enum-told : tie.Need-enum-told
-enum-told c = search needs
-
-enum-known-repeat : tie.Need-enum-known-repeat
-enum-known-repeat c = search needs
+find-lasso-requires c κs = search needs
 
 find-periods-requires : tie.Need-find-periods-requires
-find-periods-requires c κs = ((c .before .before .before .before .before .before .before .before .before .before .pre .0), (stem-is (c .before .before .before .before .before .before .find-lasso .ensures) (c .before .before .repeat .given .1) (c .before .before .before .before .before .before .before .before .before .before .pre .1 .1), (cycle-is (c .before .before .before .before .before .before .find-lasso .ensures) (c .before .before .repeat .given .1) (c .before .before .before .before .before .before .before .before .before .before .pre .1 .1), lassoed (c .before .before .before .before .before .before .find-lasso .ensures) (c .before .before .repeat .given .1) (c .before .before .before .before .before .before .before .before .before .before .pre .1 .1))))
-
-phase-count-requires : tie.Need-phase-count-requires
-phase-count-requires c κs = search needs
+find-periods-requires c κs = search (stem-is, cycle-is, lassoed, needs)
 
 find-known-requires : tie.Need-find-known-requires
 find-known-requires c κs = ((c .before .before .before .before .before .before .before .before .before .before .before .before .before .before .before .before .pre .0), (phases-from (c .before .before .before .before .before .before .before .before .before .before .before .before .find-lasso .ensures) (c .before .before .before .before .before .before .before .before .repeat .given .1) (c .before .before .before .before .before .before .before .before .before .before .before .before .before .before .before .before .pre .1 .1) (c .before .before .before .before .before .before .before .before .before .before .before .before .before .before .before .before .pre .0 .file .count) (c .before .before .before .before .before .find-periods .ensures .0) (c .before .before .before .before .before .find-periods .ensures .1) (c .before .phase-count .ensures) (c .before .before .before .before .before .before .before .before .before .before .before .before .before .before .before .before .pre .1 .0), (phases-to (c .before .before .before .before .before .before .before .before .before .before .before .before .find-lasso .ensures) (c .before .before .before .before .before .before .before .before .repeat .given .1) (c .before .before .before .before .before .before .before .before .before .before .before .before .before .before .before .before .pre .1 .1) (c .before .before .before .before .before .before .before .before .before .before .before .before .before .before .before .before .pre .0 .file .count) (c .before .before .before .before .before .find-periods .ensures .0) (c .before .before .before .before .before .find-periods .ensures .1) (c .before .phase-count .ensures) (c .before .before .before .before .before .before .before .before .before .before .before .before .before .before .before .before .pre .1 .0), (c .before .before .before .before .before .find-periods .ensures .1))))
@@ -26,14 +17,8 @@ find-known-requires c κs = ((c .before .before .before .before .before .before 
 put-entries-requires : tie.Need-put-entries-requires
 put-entries-requires c κs = ((c .before .before .before .before .before .before .before .before .before .before .before .before .before .before .before .before .before .before .before .before .pre .0), entries-ask (c .before .before .before .before .before .before .before .before .before .before .before .before .before .before .before .before .find-lasso .ensures) (c .before .before .before .before .before .before .before .before .before .before .before .before .repeat .given .1) (c .before .before .before .before .before .before .before .before .before .before .before .before .before .before .before .before .before .before .before .before .pre .1 .1) (c .before .before .before .before .before .before .before .before .before .before .before .before .before .before .before .before .before .before .before .before .pre .0 .file .count) (c .before .before .before .before .before .before .before .before .before .find-periods .ensures .0) (c .before .before .before .before .before .before .before .before .before .find-periods .ensures .1) (c .before .before .before .before .before .phase-count .ensures) (c .before .before .before .before .before .before .before .before .before .before .before .before .before .before .before .before .before .before .before .before .pre .1 .0) (c .before .before .before .find-known .ensures .0) (c .before .before .before .find-known .ensures .1))
 
-same-length : tie.Need-same-length
-same-length c = search needs
-
 returns : tie.Need-returns
-returns c = analysed-never (c .before .before .before .before .find-lasso .ensures) (c .enum-told .given .1)
-
-same-length-2 : tie.Need-same-length-2
-same-length-2 c = search needs
+returns c = search analysed-never
 
 returns-2 : tie.Need-returns-2
 returns-2 c = analysed-found (c .before .before .before .before .before .before .before .before .before .before .before .before .before .before .before .before .before .before .before .find-lasso .ensures) (c .before .before .before .before .before .before .before .before .before .before .before .before .before .before .before .repeat .given .1) (c .before .before .before .before .before .before .before .before .before .before .before .before .before .before .before .before .before .before .before .before .before .before .before .pre .1 .1) (c .before .before .before .before .before .before .before .before .before .before .before .before .before .before .before .before .before .before .before .before .before .before .before .pre .0 .file .count) (c .before .before .before .before .before .before .before .before .before .before .before .before .find-periods .ensures .0) (c .before .before .before .before .before .before .before .before .before .before .before .before .find-periods .ensures .1) (c .before .before .before .before .before .before .before .before .phase-count .ensures) (c .before .before .before .before .before .before .before .before .before .before .before .before .before .before .before .before .before .before .before .before .before .before .before .pre .1 .0) (c .before .before .before .before .before .before .find-known .ensures .0) (c .before .before .before .before .before .before .find-known .ensures .1) (c .before .before .put-entries .ensures)
@@ -41,15 +26,5 @@ returns-2 c = analysed-found (c .before .before .before .before .before .before 
 pub analyse-spec : {M : Type 1} → statement M
 analyse-spec =
     tie.close
-    (tie.spec
-    find-lasso-requires
-    enum-told
-    enum-known-repeat
-    find-periods-requires
-    phase-count-requires
-    find-known-requires
-    put-entries-requires
-    same-length
-    returns
-    same-length-2
-    returns-2)
+    (tie.spec find-lasso-requires (λ c. search needs) (λ c. search needs) find-periods-requires (λ c κs. search needs)
+    find-known-requires put-entries-requires (λ c. search needs) returns (λ c. search needs) returns-2)

@@ -6,14 +6,10 @@ use Rattle.memory.proofs.BufferLaws.{cleared-whole}
 use Rattle.memory.proofs.clear.Statement.{statement}
 use Rattle.memory.proofs.clear.Tie as tie
 
-clear-from-requires : tie.Need-clear-from-requires
-clear-from-requires c κs = search needs
-
-same-length : tie.Need-same-length
-same-length c = search needs
-
 returns : tie.Need-returns
 returns c = c .before .before .clear-from .ensures ∙ cleared-whole (c .before .before .before .before .before .args .s .now)
 
 pub clear-spec : {M : Type 1} → statement M
-clear-spec = tie.close (tie.spec clear-from-requires same-length returns)
+clear-spec =
+    tie.close
+    (tie.spec (λ c κs. search needs) (λ c. search needs) returns)

@@ -18,21 +18,9 @@ abbrev μ-clearing : tie.MeasureT-clearing
 clearing-holds : tie.Need-clearing-holds Inv-clearing μ-clearing
 clearing-holds c = (search needs, (search needs, (search needs, cleared-none (c .args .s .now) (c .args .at))))
 
-slice-write-s : tie.Need-slice-write-s Inv-clearing μ-clearing
-slice-write-s c = search needs
-
-add-i : tie.Need-add-i Inv-clearing μ-clearing
-add-i c = search needs
-
-clearing-less : tie.Need-clearing-less Inv-clearing μ-clearing
-clearing-less c = search needs
-
 clearing-again : tie.Need-clearing-again Inv-clearing μ-clearing
 clearing-again c =
     (search needs, (search needs, (search needs, rw (c .before .clearing .inv .1 .1 .1) (cleared-more (c .before .before .args .s .now) (c .before .before .args .at) (c .before .clearing .i) (omega arith) (omega arith)))))
-
-same-length : tie.Need-same-length Inv-clearing μ-clearing
-same-length c = search needs
 
 returns : tie.Need-returns Inv-clearing μ-clearing
 returns c =
@@ -42,13 +30,5 @@ returns c =
 pub clear-from-spec : {M : Type 1} → statement M
 clear-from-spec =
     tie.close
-    (tie.spec
-    Inv-clearing
-    μ-clearing
-    clearing-holds
-    slice-write-s
-    add-i
-    clearing-less
-    clearing-again
-    same-length
-    returns)
+    (tie.spec Inv-clearing μ-clearing clearing-holds (λ c. search needs) (λ c. search needs) (λ c. search needs) clearing-again
+    (λ c. search needs) returns)

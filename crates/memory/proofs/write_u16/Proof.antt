@@ -8,23 +8,8 @@ use lib.ListN.{length-set}
 use Rattle.memory.proofs.write_u16.Statement.{statement}
 use Rattle.memory.proofs.write_u16.Tie as tie
 
-cast-low : tie.Need-cast-low
-cast-low c = search needs
-
-cast-high : tie.Need-cast-high
-cast-high c = search needs
-
-add-next : tie.Need-add-next
-add-next c = search needs
-
-slice-write-s : tie.Need-slice-write-s
-slice-write-s c = search needs
-
 slice-write-s-2 : tie.Need-slice-write-s-2
 slice-write-s-2 c = simp length-set (omega arith)
-
-same-length : tie.Need-same-length
-same-length c = search needs
 
 returns : tie.Need-returns
 returns c = rw (add-one (c .args .at)) refl
@@ -32,4 +17,5 @@ returns c = rw (add-one (c .args .at)) refl
 pub write-u16-spec : {M : Type 1} → statement M
 write-u16-spec =
     tie.close
-    (tie.spec cast-low cast-high add-next slice-write-s slice-write-s-2 same-length returns)
+    (tie.spec (λ c. search needs) (λ c. search needs) (λ c. search needs) (λ c. search needs) slice-write-s-2 (λ c. search needs)
+    returns)

@@ -40,7 +40,7 @@ use denote.Triple.Walked.{says, Stays, stay-none, stay-none-slice, gave-slice, w
 use denote.Exit.{yes}
 use denote.Signature.{plain}
 use Rattle.netlist.specs.Limits.{foldClockEntries}
-use Rattle.lasso_finder.specs.WorkMap.{entriesIn}
+use Rattle.ternary_step.specs.WorkMap.{entriesIn}
 use Rattle.clock_list.specs.ClockCode.{clocksOf}
 use Rattle.clock_list.specs.declared.Clock.{Clock}
 use Rattle.clock_list.proofs.Clock as clock

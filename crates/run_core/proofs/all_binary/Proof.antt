@@ -21,17 +21,11 @@ abbrev μ-values : tie.MeasureT-values
 values-holds : tie.Need-values-holds Inv-values μ-values
 values-holds c = (omega arith, refl)
 
-shared-slice-read-value : tie.Need-shared-slice-read-value Inv-values μ-values
-shared-slice-read-value c = search needs
-
-both-requires : tie.Need-both-requires Inv-values μ-values
-both-requires c κs = search needs
-
 add-i : tie.Need-add-i Inv-values μ-values
-add-i c = omega (arith, c .before .before .values-test .taken)
+add-i c = search needs
 
 values-less : tie.Need-values-less Inv-values μ-values
-values-less c = omega (arith, c .before .before .values-test .taken)
+values-less c = search needs
 
 values-again : tie.Need-values-again Inv-values μ-values
 values-again c = (omega (arith, c .before .before .values-test .taken), binary-more (c .before .before .before .before .before .args .values .now) (c .before .before .before .values .i) (c .before .before .before .values .binary) (c .both .result) (c .before .before .before .values .inv .1) (c .both .ensures))
@@ -42,13 +36,4 @@ returns c = let e : c .before .values .i ≡ length (c .before .before .before .
 pub all-binary-spec : {M : Type 1} → statement M
 all-binary-spec =
     tie.close
-    (tie.spec
-    Inv-values
-    μ-values
-    values-holds
-    shared-slice-read-value
-    both-requires
-    add-i
-    values-less
-    values-again
-    returns)
+    (tie.spec Inv-values μ-values values-holds (λ c. search needs) (λ c κs. search needs) add-i values-less values-again returns)

@@ -10,11 +10,10 @@ use Rattle.run_core.proofs.lists_right.Tie as tie
 mul-values : tie.Need-mul-values
 mul-values c = record { fits = omega (arith, product-small (c .before .before .before .args .steps) (c .before .before .before .args .counts .inputs) (c .before .before .before .pre .1) (c .before .before .before .pre .0 .inputs)) }
 
-both-requires : tie.Need-both-requires
-both-requires c κs = search needs
-
 returns : tie.Need-returns
-returns c = λ rows e. lists-by rows (countsIn (c .before .before .before .before .before .args .counts)) e (c .before .before .before .before .before .args .steps) (c .both .result) (c .before .before .before .before .before .args .choices .now) (c .before .before .before .before .before .args .inputs .now) (c .both .ensures)
+returns c = search lists-by
 
 pub lists-right-spec : {M : Type 1} → statement M
-lists-right-spec = tie.close (tie.spec mul-values both-requires returns)
+lists-right-spec =
+    tie.close
+    (tie.spec mul-values (λ c κs. search needs) returns)

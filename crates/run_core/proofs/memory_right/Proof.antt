@@ -10,11 +10,10 @@ use Rattle.run_core.proofs.memory_right.Tie as tie
 mul-bytes : tie.Need-mul-bytes
 mul-bytes c = record { fits = omega (arith, product-small (c .before .args .steps) (c .before .args .counts .outputs) (c .before .pre .1) (c .before .pre .0 .outputs)) }
 
-both-requires : tie.Need-both-requires
-both-requires c κs = search needs
-
 returns : tie.Need-returns
-returns c = λ rows e. memory-by rows (countsIn (c .before .before .args .counts)) e (c .before .before .args .steps) (c .both .result) (c .before .before .args .result) (c .before .before .args .work) (c .both .ensures)
+returns c = search memory-by
 
 pub memory-right-spec : {M : Type 1} → statement M
-memory-right-spec = tie.close (tie.spec mul-bytes both-requires returns)
+memory-right-spec =
+    tie.close
+    (tie.spec mul-bytes (λ c κs. search needs) returns)

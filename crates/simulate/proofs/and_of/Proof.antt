@@ -5,10 +5,10 @@ use Rattle.simulate.proofs.and_of.Statement.{statement}
 use Rattle.simulate.proofs.and_of.Tie as tie
 
 returns : tie.Need-returns
-returns c = and-zero (c .before .args .x) (c .before .args .y) (c .if1 .taken)
+returns c = search and-zero
 
 returns-2 : tie.Need-returns-2
-returns-2 c = and-one (c .before .args .x) (c .before .args .y) (c .before .pre .0) (c .before .pre .1) (c .if1 .left)
+returns-2 c = search and-one
 
 pub and-of-spec : {M : Type 1} → statement M
 and-of-spec = tie.close (tie.spec returns returns-2)

@@ -3,6 +3,7 @@
 use Prim.Native.Nat.{_-_, _≤_}
 use mathlib.Core.Path.{_∙_}
 use native.Mathlib.Omega.{arith}
+use borrow.Author.Needs.{needs}
 use Rattle.simulate.proofs.WalkLaws.{BlocksWalked, blocks-none, block-rows, block-halves, block-place, blocks-more, blocks-all}
 use Rattle.simulate.proofs.evaluate.Statement.{statement}
 use Rattle.simulate.proofs.evaluate.Tie as tie
@@ -13,23 +14,14 @@ Inv-each-block file rows inputs base work₀ current previous initial rest whole
 abbrev μ-each-block : tie.MeasureT-each-block
 μ-each-block file rows inputs base work₀ current previous initial rest whole start₀ first₀ used₀ work start first used = whole - start
 
-sub-whole : tie.Need-sub-whole Inv-each-block μ-each-block
-sub-whole c = omega arith
-
 each-block-holds : tie.Need-each-block-holds Inv-each-block μ-each-block
-each-block-holds c = (omega arith, blocks-none (c .before .before .before .pre .0 .0) (c .before .before .before .pre .0 .1))
-
-add-stop : tie.Need-add-stop Inv-each-block μ-each-block
-add-stop c = omega arith
+each-block-holds c = search (blocks-none, needs)
 
 evaluate-rows-requires : tie.Need-evaluate-rows-requires Inv-each-block μ-each-block
 evaluate-rows-requires c κs = let I = c .before .before .each-block .inv .1 in ((block-rows (c .before .before .before .before .before .before .pre .0 .0) (c .before .before .before .before .before .before .pre .0 .1) I (omega arith) (omega arith) (omega (arith, I .starts)), block-halves (c .before .before .before .before .before .before .pre .0 .0) (c .before .before .before .before .before .before .pre .0 .1) I), (c .before .before .before .before .before .before .pre .1 .0, (c .before .before .before .before .before .before .pre .1 .1, I .used-is)))
 
 add-first : tie.Need-add-first Inv-each-block μ-each-block
-add-first c = omega (arith, block-place (c .before .before .before .before .before .before .before .before .before .pre .0 .0) (c .before .before .before .before .before .before .before .before .before .pre .0 .1) (c .before .before .before .before .before .each-block .inv .1) (omega arith))
-
-each-block-less : tie.Need-each-block-less Inv-each-block μ-each-block
-each-block-less c = omega arith
+add-first c = search (block-place, needs)
 
 each-block-again : tie.Need-each-block-again Inv-each-block μ-each-block
 each-block-again c = let I = c .before .before .before .before .before .each-block .inv .1 in (omega (arith, I .starts), blocks-more (c .before .before .before .before .before .before .before .before .before .pre .0 .0) (c .before .before .before .before .before .before .before .before .before .pre .0 .1) I (c .before .before .evaluate-rows .kept .1 .1 .1 .1 .1 .1 .1 .0) (c .before .before .evaluate-rows .ensures .0) (c .before .before .evaluate-rows .ensures .1 (c .before .before .before .before .before .before .before .before .before .args .work .now)))
@@ -38,7 +30,7 @@ evaluate-rows-requires-2 : tie.Need-evaluate-rows-requires-2 Inv-each-block μ-e
 evaluate-rows-requires-2 c κs = let I = c .before .before .each-block .inv .1 in ((block-rows (c .before .before .before .before .before .before .pre .0 .0) (c .before .before .before .before .before .before .pre .0 .1) I (omega arith) (omega arith) (omega arith), block-halves (c .before .before .before .before .before .before .pre .0 .0) (c .before .before .before .before .before .before .pre .0 .1) I), (c .before .before .before .before .before .before .pre .1 .0, (c .before .before .before .before .before .before .pre .1 .1, I .used-is)))
 
 same-length : tie.Need-same-length Inv-each-block μ-each-block
-same-length c = c .before .before .evaluate-rows2 .kept .1 .1 .1 .1 .1 .1 .1 .0 ∙ c .before .before .before .before .before .each-block .inv .1 .room
+same-length c = search needs
 
 returns : tie.Need-returns Inv-each-block μ-each-block
 returns c = blocks-all (c .before .before .before .before .before .before .before .before .before .pre .0 .0) (c .before .before .before .before .before .before .before .before .before .pre .0 .1) (c .before .before .before .before .before .each-block .inv .1) (c .before .before .evaluate-rows2 .ensures .1 (c .before .before .before .before .before .before .before .before .before .args .work .now))
@@ -46,16 +38,5 @@ returns c = blocks-all (c .before .before .before .before .before .before .befor
 pub evaluate-spec : {M : Type 1} → statement M
 evaluate-spec =
     tie.close
-    (tie.spec
-    Inv-each-block
-    μ-each-block
-    sub-whole
-    each-block-holds
-    add-stop
-    evaluate-rows-requires
-    add-first
-    each-block-less
-    each-block-again
-    evaluate-rows-requires-2
-    same-length
-    returns)
+    (tie.spec Inv-each-block μ-each-block (λ c. omega arith) each-block-holds (λ c. omega arith) evaluate-rows-requires add-first
+    (λ c. omega arith) each-block-again evaluate-rows-requires-2 same-length returns)

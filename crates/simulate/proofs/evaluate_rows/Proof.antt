@@ -2,6 +2,7 @@
 -- Assumes nothing.
 use Prim.Native.Nat.{_-_, _≤_}
 use native.Mathlib.Omega.{arith}
+use borrow.Author.Needs.{needs}
 use Rattle.simulate.proofs.WalkLaws.{Walked, walk-none, walk-inputs, walk-inside, walk-asks, walk-target, walk-used, walk-more, walk-all}
 use Rattle.simulate.proofs.evaluate_rows.Statement.{statement}
 use Rattle.simulate.proofs.evaluate_rows.Tie as tie
@@ -13,7 +14,7 @@ abbrev μ-rows : tie.MeasureT-rows
 μ-rows file start stop first inputs base before work₀ current previous initial row₀ place₀ used₀ work row place used = stop - row
 
 rows-holds : tie.Need-rows-holds Inv-rows μ-rows
-rows-holds c = (c .before .before .before .pre .0 .0 .from, walk-none (c .before .before .before .pre .0 .0) (c .before .before .before .pre .1 .1 .1) (c .before .before .before .pre .0 .1))
+rows-holds c = search walk-none
 
 shared-slice-read-kind : tie.Need-shared-slice-read-kind Inv-rows μ-rows
 shared-slice-read-kind c = omega (arith, walk-inside (c .before .before .before .before .before .before .pre .0 .0) (c .before .before .before .before .before .before .pre .1 .1 .0) (c .before .before .rows .inv .1) (omega arith))
@@ -28,28 +29,22 @@ one-if-requires : tie.Need-one-if-requires Inv-rows μ-rows
 one-if-requires c κs = tt
 
 add-target : tie.Need-add-target Inv-rows μ-rows
-add-target c = omega (arith, walk-target (c .before .before .before .before .before .before .before .before .before .pre .0 .0) (c .before .before .before .before .before .before .before .before .before .pre .1 .1 .0) (c .before .before .before .before .before .rows .inv .1) (omega arith))
+add-target c = search (walk-target, needs)
 
 slice-write-work : tie.Need-slice-write-work Inv-rows μ-rows
-slice-write-work c = walk-target (c .before .before .before .before .before .before .before .before .before .pre .0 .0) (c .before .before .before .before .before .before .before .before .before .pre .1 .1 .0) (c .before .before .before .before .before .rows .inv .1) (omega arith)
+slice-write-work c = search walk-target
 
 add-used : tie.Need-add-used Inv-rows μ-rows
 add-used c = omega (arith, walk-used (c .before .before .before .before .before .before .before .before .before .pre .0 .0) (c .before .before .before .before .before .before .before .before .before .pre .1 .1 .0) (c .before .before .before .before .before .rows .inv .1) (omega arith) (c .one-if .ensures .0))
 
 add-place : tie.Need-add-place Inv-rows μ-rows
-add-place c = omega (arith, walk-inside (c .before .before .before .before .before .before .before .before .before .pre .0 .0) (c .before .before .before .before .before .before .before .before .before .pre .1 .1 .0) (c .before .before .before .before .before .rows .inv .1) (omega arith))
-
-add-row : tie.Need-add-row Inv-rows μ-rows
-add-row c = omega arith
-
-rows-less : tie.Need-rows-less Inv-rows μ-rows
-rows-less c = omega arith
+add-place c = search (walk-inside, needs)
 
 rows-again : tie.Need-rows-again Inv-rows μ-rows
-rows-again c = (omega arith, walk-more (c .before .before .before .before .before .before .before .before .before .pre .0 .0) (c .before .before .before .before .before .before .before .before .before .pre .1 .1 .0) (c .before .before .before .before .before .rows .inv .1) (omega arith) (c .one-if .ensures .0) (c .before .row-value .ensures))
+rows-again c = search (walk-more, needs)
 
 same-length : tie.Need-same-length Inv-rows μ-rows
-same-length c = c .before .rows .inv .1 .room
+same-length c = search needs
 
 returns : tie.Need-returns Inv-rows μ-rows
 returns c = walk-all (c .before .before .before .before .before .pre .0 .0) (omega arith) (c .before .rows .inv .1)
@@ -57,20 +52,5 @@ returns c = walk-all (c .before .before .before .before .before .pre .0 .0) (ome
 pub evaluate-rows-spec : {M : Type 1} → statement M
 evaluate-rows-spec =
     tie.close
-    (tie.spec
-    Inv-rows
-    μ-rows
-    rows-holds
-    shared-slice-read-kind
-    add-input
-    row-value-requires
-    one-if-requires
-    add-target
-    slice-write-work
-    add-used
-    add-place
-    add-row
-    rows-less
-    rows-again
-    same-length
-    returns)
+    (tie.spec Inv-rows μ-rows rows-holds shared-slice-read-kind add-input row-value-requires one-if-requires add-target
+    slice-write-work add-used add-place (λ c. omega arith) (λ c. omega arith) rows-again same-length returns)

@@ -4,14 +4,10 @@ use borrow.Author.Needs.{needs}
 use Rattle.simulate.proofs.field_value.Statement.{statement}
 use Rattle.simulate.proofs.field_value.Tie as tie
 
-field-at-requires : tie.Need-field-at-requires
-field-at-requires c κs = search needs
-
-literal-value-requires : tie.Need-literal-value-requires
-literal-value-requires c κs = search needs
-
 returns : tie.Need-returns
 returns c = rw (c .before .field-at .ensures .0) at (c .literal-value .ensures)
 
 pub field-value-spec : {M : Type 1} → statement M
-field-value-spec = tie.close (tie.spec field-at-requires literal-value-requires returns)
+field-value-spec =
+    tie.close
+    (tie.spec (λ c κs. search needs) (λ c κs. search needs) returns)

@@ -5,15 +5,6 @@ use borrow.Author.Needs.{needs}
 use Rattle.simulate.proofs.held_value.Statement.{statement}
 use Rattle.simulate.proofs.held_value.Tie as tie
 
-add-held : tie.Need-add-held
-add-held c = search needs
-
-add-at-a : tie.Need-add-at-a
-add-at-a c = search needs
-
-shared-slice-read-result : tie.Need-shared-slice-read-result
-shared-slice-read-result c = search needs
-
 field-value-requires : tie.Need-field-value-requires
 field-value-requires c κs = search (next-names, needs)
 
@@ -26,4 +17,4 @@ returns-2 c = search held-later
 pub held-value-spec : {M : Type 1} → statement M
 held-value-spec =
     tie.close
-    (tie.spec add-held add-at-a shared-slice-read-result field-value-requires returns returns-2)
+    (tie.spec (λ c. search needs) (λ c. search needs) (λ c. search needs) field-value-requires returns returns-2)

@@ -7,24 +7,16 @@ use borrow.Author.Needs.{needs}
 use Rattle.simulate.proofs.literal_value.Statement.{statement}
 use Rattle.simulate.proofs.literal_value.Tie as tie
 
-add-place : tie.Need-add-place
-add-place c = search needs
-
-shared-slice-read-value : tie.Need-shared-slice-read-value
-shared-slice-read-value c = search needs
-
 cast-value : tie.Need-cast-value
 cast-value c = omega (arith, c .before .pre .1 (c .before .args .from + c .before .args .literal / 2))
 
 add-sum : tie.Need-add-sum
 add-sum c = omega (arith, c .before .pre .1 (c .before .args .from + c .before .args .literal / 2), c .before .good)
 
-cast-result : tie.Need-cast-result
-cast-result c = search needs
-
 returns : tie.Need-returns
 returns c = literal-sum (c .before .args .work .now) (c .before .args .from) (c .before .args .literal) (c .before .pre .1)
 
 pub literal-value-spec : {M : Type 1} → statement M
 literal-value-spec =
-    tie.close (tie.spec add-place shared-slice-read-value cast-value add-sum cast-result returns)
+    tie.close
+    (tie.spec (λ c. search needs) (λ c. search needs) cast-value add-sum (λ c. search needs) returns)

@@ -5,10 +5,10 @@ use Rattle.simulate.proofs.mux_of.Statement.{statement}
 use Rattle.simulate.proofs.mux_of.Tie as tie
 
 returns : tie.Need-returns
-returns c = mux-zero (c .before .args .selector) (c .before .args .x) (c .before .args .y) (c .before .pre .1 .1) (c .if1 .taken)
+returns c = search mux-zero
 
 returns-2 : tie.Need-returns-2
-returns-2 c = mux-one (c .before .args .selector) (c .before .args .x) (c .before .args .y) (c .before .pre .0) (c .before .pre .1 .0) (c .if1 .left)
+returns-2 c = search mux-one
 
 pub mux-of-spec : {M : Type 1} → statement M
 mux-of-spec = tie.close (tie.spec returns returns-2)

@@ -5,20 +5,8 @@ use borrow.Author.Needs.{needs}
 use Rattle.simulate.proofs.row_value.Statement.{statement}
 use Rattle.simulate.proofs.row_value.Tie as tie
 
-add-at-a : tie.Need-add-at-a
-add-at-a c = search needs
-
-add-at-b : tie.Need-add-at-b
-add-at-b c = search needs
-
-add-at-c : tie.Need-add-at-c
-add-at-c c = search needs
-
 shared-slice-read-result : tie.Need-shared-slice-read-result
 shared-slice-read-result c = c .before .before .before .before .before .pre .1 .0 .0 (search needs)
-
-held-value-requires : tie.Need-held-value-requires
-held-value-requires c κs = search needs
 
 field-value-requires : tie.Need-field-value-requires
 field-value-requires c κs = search (and-names-a, needs)
@@ -26,17 +14,11 @@ field-value-requires c κs = search (and-names-a, needs)
 field-value-requires-2 : tie.Need-field-value-requires-2
 field-value-requires-2 c κs = search (and-names-b, needs)
 
-and-of-requires : tie.Need-and-of-requires
-and-of-requires c κs = search needs
-
 field-value-requires-3 : tie.Need-field-value-requires-3
 field-value-requires-3 c κs = search (xor-names-a, needs)
 
 field-value-requires-4 : tie.Need-field-value-requires-4
 field-value-requires-4 c κs = search (xor-names-b, needs)
-
-xor-of-requires : tie.Need-xor-of-requires
-xor-of-requires c κs = search needs
 
 field-value-requires-5 : tie.Need-field-value-requires-5
 field-value-requires-5 c κs = search (mux-names-a, needs)
@@ -46,9 +28,6 @@ field-value-requires-6 c κs = search (mux-names-b, needs)
 
 field-value-requires-7 : tie.Need-field-value-requires-7
 field-value-requires-7 c κs = search (mux-names-c, needs)
-
-mux-of-requires : tie.Need-mux-of-requires
-mux-of-requires c κs = search needs
 
 field-value-requires-8 : tie.Need-field-value-requires-8
 field-value-requires-8 c κs = search (output-names, needs)
@@ -80,28 +59,7 @@ returns-8 c = search value-output
 pub row-value-spec : {M : Type 1} → statement M
 row-value-spec =
     tie.close
-    (tie.spec
-    add-at-a
-    add-at-b
-    add-at-c
-    shared-slice-read-result
-    held-value-requires
-    field-value-requires
-    field-value-requires-2
-    and-of-requires
-    field-value-requires-3
-    field-value-requires-4
-    xor-of-requires
-    field-value-requires-5
-    field-value-requires-6
-    field-value-requires-7
-    mux-of-requires
-    field-value-requires-8
-    returns
-    returns-2
-    returns-3
-    returns-4
-    returns-5
-    returns-6
-    returns-7
-    returns-8)
+    (tie.spec (λ c. search needs) (λ c. search needs) (λ c. search needs) shared-slice-read-result (λ c κs. search needs)
+    field-value-requires field-value-requires-2 (λ c κs. search needs) field-value-requires-3 field-value-requires-4
+    (λ c κs. search needs) field-value-requires-5 field-value-requires-6 field-value-requires-7 (λ c κs. search needs)
+    field-value-requires-8 returns returns-2 returns-3 returns-4 returns-5 returns-6 returns-7 returns-8)

@@ -5,6 +5,7 @@ use mathlib.Core.Path.{_≡_, refl, sym, ap, _∙_}
 use native.Mathlib.Omega.{arith}
 use lib.ListN.{length, take, drop, length-drop, length-set}
 use lib.Seq.{sets, getD-drop}
+use borrow.Author.Needs.{needs}
 use Rattle.simulate.proofs.WriteLaws.{put-next}
 use Rattle.simulate.proofs.show.Statement.{statement}
 use Rattle.simulate.proofs.show.Tie as tie
@@ -18,24 +19,6 @@ abbrev μ-outputs : tie.MeasureT-outputs
 outputs-holds : tie.Need-outputs-holds Inv-outputs μ-outputs
 outputs-holds c = (omega arith, (refl, refl))
 
-add-source : tie.Need-add-source Inv-outputs μ-outputs
-add-source c = omega arith
-
-add-target : tie.Need-add-target Inv-outputs μ-outputs
-add-target c = omega arith
-
-shared-slice-read-result : tie.Need-shared-slice-read-result Inv-outputs μ-outputs
-shared-slice-read-result c = omega arith
-
-slice-write-result : tie.Need-slice-write-result Inv-outputs μ-outputs
-slice-write-result c = omega arith
-
-add-shown : tie.Need-add-shown Inv-outputs μ-outputs
-add-shown c = omega arith
-
-outputs-less : tie.Need-outputs-less Inv-outputs μ-outputs
-outputs-less c = omega arith
-
 outputs-again : tie.Need-outputs-again Inv-outputs μ-outputs
 outputs-again c =
     let work = c .before .before .before .args .work .now in
@@ -48,7 +31,7 @@ outputs-again c =
     )
 
 same-length : tie.Need-same-length Inv-outputs μ-outputs
-same-length c = c .before .outputs .inv .1 .0
+same-length c = search needs
 
 returns : tie.Need-returns Inv-outputs μ-outputs
 returns c =
@@ -58,16 +41,5 @@ returns c =
 pub show-spec : {M : Type 1} → statement M
 show-spec =
     tie.close
-    (tie.spec
-    Inv-outputs
-    μ-outputs
-    outputs-holds
-    add-source
-    add-target
-    shared-slice-read-result
-    slice-write-result
-    add-shown
-    outputs-less
-    outputs-again
-    same-length
-    returns)
+    (tie.spec Inv-outputs μ-outputs outputs-holds (λ c. omega arith) (λ c. omega arith) (λ c. omega arith) (λ c. omega arith)
+    (λ c. omega arith) (λ c. omega arith) outputs-again same-length returns)

@@ -5,18 +5,6 @@ use borrow.Author.Needs.{needs}
 use Rattle.simulate.proofs.start_value.Statement.{statement}
 use Rattle.simulate.proofs.start_value.Tie as tie
 
-row-place-requires : tie.Need-row-place-requires
-row-place-requires c κs = search needs
-
-add-second : tie.Need-add-second
-add-second c = search needs
-
-shared-slice-read-kind : tie.Need-shared-slice-read-kind
-shared-slice-read-kind c = search needs
-
-shared-slice-read-reset : tie.Need-shared-slice-read-reset
-shared-slice-read-reset c = search needs
-
 shared-slice-read-result : tie.Need-shared-slice-read-result
 shared-slice-read-result c = c .before .before .before .before .before .before .before .before .pre .1 .0 (search start-is-unknown)
 
@@ -35,13 +23,5 @@ returns-4 c = search start-other
 pub start-value-spec : {M : Type 1} → statement M
 start-value-spec =
     tie.close
-    (tie.spec
-    row-place-requires
-    add-second
-    shared-slice-read-kind
-    shared-slice-read-reset
-    shared-slice-read-result
-    returns
-    returns-2
-    returns-3
-    returns-4)
+    (tie.spec (λ c κs. search needs) (λ c. search needs) (λ c. search needs) (λ c. search needs) shared-slice-read-result returns
+    returns-2 returns-3 returns-4)

@@ -12,29 +12,13 @@ sub-outputs c = omega (arith, nodes-most _ _ (c .before .before .before .before 
 add-shown : tie.Need-add-shown
 add-shown c = omega (arith, nodes-most _ _ (c .before .before .before .before .pre .0 .0), c .before .before .before .before .pre .1 .1 .0, c .before .before .before .before .pre .0 .1 .current-fits)
 
-evaluate-requires : tie.Need-evaluate-requires
-evaluate-requires c κs = search needs
-
 show-requires : tie.Need-show-requires
 show-requires c κs = (omega (arith, nodes-most _ _ (c .before .before .before .before .before .before .before .before .before .before .pre .0 .0), c .before .before .before .before .before .before .before .before .before .before .pre .1 .1 .0, c .before .before .before .before .before .before .before .before .before .before .pre .0 .1 .current-fits, c .before .before .before .before .evaluate .kept .1 .1 .1 .1 .0), c .before .before .before .before .before .before .before .before .before .before .pre .1 .1 .1)
 
-same-length : tie.Need-same-length
-same-length c = search needs
-
-same-length-2 : tie.Need-same-length-2
-same-length-2 c = search needs
-
 returns : tie.Need-returns
-returns c = step-of _ _ (c .before .before .before .before .before .before .before .before .before .before .before .before .before .pre .0 .0) (c .before .before .before .before .before .before .before .before .before .before .before .before .before .args .inputs .now) (c .before .before .before .before .before .before .before .before .before .before .before .before .before .args .base) _ _ (c .before .before .before .before .before .before .before .before .before .before .before .before .before .args .initial) _ _ _ _ _ _ (c .before .before .before .before .before .before .before .before .before .before .before .before .before .pre .0 .1) (c .before .before .before .before .before .before .before .before .before .before .before .before .before .pre .1 .1 .0) (c .before .before .before .before .before .before .before .evaluate .ensures) (c .before .before .show .ensures)
+returns c = search step-of
 
 pub step-spec : {M : Type 1} → statement M
 step-spec =
     tie.close
-    (tie.spec
-    sub-outputs
-    add-shown
-    evaluate-requires
-    show-requires
-    same-length
-    same-length-2
-    returns)
+    (tie.spec sub-outputs add-shown (λ c κs. search needs) show-requires (λ c. search needs) (λ c. search needs) returns)

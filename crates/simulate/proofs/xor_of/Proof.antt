@@ -5,10 +5,10 @@ use Rattle.simulate.proofs.xor_of.Statement.{statement}
 use Rattle.simulate.proofs.xor_of.Tie as tie
 
 returns : tie.Need-returns
-returns c = xor-same (c .before .args .x) (c .before .args .y) (c .before .pre .0) (c .before .pre .1) (c .if1 .taken)
+returns c = search xor-same
 
 returns-2 : tie.Need-returns-2
-returns-2 c = xor-other (c .before .args .x) (c .before .args .y) (c .before .pre .0) (c .before .pre .1) (c .if1 .left)
+returns-2 c = search xor-other
 
 pub xor-of-spec : {M : Type 1} → statement M
 xor-of-spec = tie.close (tie.spec returns returns-2)

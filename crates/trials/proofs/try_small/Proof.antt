@@ -13,37 +13,8 @@ Inv-netlists seed₀ tally₀ end i₀ seed tally i = (length tally ≡ length t
 abbrev μ-netlists : tie.MeasureT-netlists
 μ-netlists seed₀ tally₀ end i₀ seed tally i = end - i
 
-netlists-holds : tie.Need-netlists-holds Inv-netlists μ-netlists
-netlists-holds c = search needs
-
-try-netlist-requires : tie.Need-try-netlist-requires Inv-netlists μ-netlists
-try-netlist-requires c κs = search needs
-
-add-i : tie.Need-add-i Inv-netlists μ-netlists
-add-i c = search needs
-
-netlists-less : tie.Need-netlists-less Inv-netlists μ-netlists
-netlists-less c = search needs
-
-netlists-again : tie.Need-netlists-again Inv-netlists μ-netlists
-netlists-again c = search needs
-
-same-length : tie.Need-same-length Inv-netlists μ-netlists
-same-length c = search needs
-
-returns : tie.Need-returns Inv-netlists μ-netlists
-returns c = search needs
-
 pub try-small-spec : {M : Type 1} → statement M
 try-small-spec =
     tie.close
-    (tie.spec
-    Inv-netlists
-    μ-netlists
-    netlists-holds
-    try-netlist-requires
-    add-i
-    netlists-less
-    netlists-again
-    same-length
-    returns)
+    (tie.spec Inv-netlists μ-netlists (λ c. search needs) (λ c κs. search needs) (λ c. search needs) (λ c. search needs)
+    (λ c. search needs) (λ c. search needs) (λ c. search needs))

@@ -7,9 +7,6 @@ use borrow.Author.Needs.{needs}
 use Rattle.blockfile.proofs.blocks.last_mark.Statement.{statement}
 use Rattle.blockfile.proofs.blocks.last_mark.Tie as tie
 
-add-next : tie.Need-add-next
-add-next c = search needs
-
 returns : tie.Need-returns
 returns c = rw (← add-one (c .before .args .number), eq-eqb (c .before .args .number + 1) (c .before .args .blocks) (c .if1 .taken))
 
@@ -17,4 +14,6 @@ returns-2 : tie.Need-returns-2
 returns-2 c = rw (← add-one (c .before .args .number), ne-eqb (c .before .args .number + 1) (c .before .args .blocks) (c .if1 .left))
 
 pub last-mark-spec : {M : Type 1} → statement M
-last-mark-spec = tie.close (tie.spec add-next returns returns-2)
+last-mark-spec =
+    tie.close
+    (tie.spec (λ c. search needs) returns returns-2)

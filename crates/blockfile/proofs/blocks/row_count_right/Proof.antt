@@ -7,15 +7,6 @@ use borrow.Author.Needs.{needs}
 use Rattle.blockfile.proofs.blocks.row_count_right.Statement.{statement}
 use Rattle.blockfile.proofs.blocks.row_count_right.Tie as tie
 
-shared-slice-read-count : tie.Need-shared-slice-read-count
-shared-slice-read-count c = search needs
-
-add-next : tie.Need-add-next
-add-next c = search needs
-
-both-requires : tie.Need-both-requires
-both-requires c κs = search needs
-
 returns : tie.Need-returns
 returns c = rw (← add-one (c .before .before .before .before .args .number), eq-eqb (c .before .before .before .before .args .number + 1) (c .before .before .before .before .args .blocks) (c .before .if1 .taken)) (c .both .ensures)
 
@@ -24,4 +15,5 @@ returns-2 c = rw (← add-one (c .before .before .before .args .number), ne-eqb 
 
 pub row-count-right-spec : {M : Type 1} → statement M
 row-count-right-spec =
-    tie.close (tie.spec shared-slice-read-count add-next both-requires returns returns-2)
+    tie.close
+    (tie.spec (λ c. search needs) (λ c. search needs) (λ c κs. search needs) returns returns-2)

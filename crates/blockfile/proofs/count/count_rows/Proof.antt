@@ -8,6 +8,7 @@ use Rattle.netlist.specs.Limits.{mostRows}
 use Rattle.netlist.specs.FileFormat.{netlistOf}
 use Rattle.questions.specs.Questions.{countsOf}
 use Rattle.blockfile.specs.CountCode.{countsIn}
+use borrow.Author.Needs.{needs}
 use Rattle.blockfile.proofs.CountLaws.{counts-small, most-more, counts-more, counts-all}
 use Rattle.blockfile.proofs.count.count_rows.Statement.{statement}
 use Rattle.blockfile.proofs.count.count_rows.Tie as tie
@@ -22,10 +23,10 @@ rows-holds : tie.Need-rows-holds Inv-rows μ-rows
 rows-holds c = (omega arith, refl)
 
 row-place-requires : tie.Need-row-place-requires Inv-rows μ-rows
-row-place-requires c κs = omega (arith, c .before .before .before .pre .few)
+row-place-requires c κs = search needs
 
 add-second : tie.Need-add-second Inv-rows μ-rows
-add-second c = omega (arith, c .before .before .before .before .pre .inside (c .before .before .rows .row) (omega arith))
+add-second c = search needs
 
 shared-slice-read-kind : tie.Need-shared-slice-read-kind Inv-rows μ-rows
 shared-slice-read-kind c = omega (arith, c .before .before .before .before .before .pre .inside (c .before .before .before .rows .row) (omega arith))
@@ -34,16 +35,10 @@ shared-slice-read-reset : tie.Need-shared-slice-read-reset Inv-rows μ-rows
 shared-slice-read-reset c = omega (arith, c .before .before .before .before .before .before .pre .inside (c .before .before .before .before .rows .row) (omega arith))
 
 with-row-requires : tie.Need-with-row-requires Inv-rows μ-rows
-with-row-requires c κs = most-more _ (c .before .before .before .before .rows .row) mostRows (omega (arith, c .before .before .before .before .before .before .pre .few)) (counts-small (netlistOf (c .before .before .before .before .before .before .args .file .now)) (c .before .before .before .before .rows .row) _ (c .before .before .before .before .rows .inv .1))
-
-add-row : tie.Need-add-row Inv-rows μ-rows
-add-row c = omega arith
-
-rows-less : tie.Need-rows-less Inv-rows μ-rows
-rows-less c = omega arith
+with-row-requires c κs = search (most-more, counts-small, needs)
 
 rows-again : tie.Need-rows-again Inv-rows μ-rows
-rows-again c = (omega arith, counts-more (c .before .before .before .before .before .before .before .args .file .now) (c .before .before .before .before .before .before .before .args .rows) (c .before .before .before .before .before .before .before .pre) (c .before .before .before .before .before .rows .row) (c .before .before .before .row-place .result) (countsIn (c .before .before .before .before .before .rows .counted)) _ (omega arith) (c .before .before .before .row-place .ensures) (c .before .before .before .before .before .rows .inv .1) (c .with-row .ensures))
+rows-again c = search (counts-more, needs)
 
 returns : tie.Need-returns Inv-rows μ-rows
 returns c =
@@ -53,16 +48,5 @@ returns c =
 pub count-rows-spec : {M : Type 1} → statement M
 count-rows-spec =
     tie.close
-    (tie.spec
-    Inv-rows
-    μ-rows
-    rows-holds
-    row-place-requires
-    add-second
-    shared-slice-read-kind
-    shared-slice-read-reset
-    with-row-requires
-    add-row
-    rows-less
-    rows-again
-    returns)
+    (tie.spec Inv-rows μ-rows rows-holds row-place-requires add-second shared-slice-read-kind shared-slice-read-reset
+    with-row-requires (λ c. omega arith) (λ c. omega arith) rows-again returns)

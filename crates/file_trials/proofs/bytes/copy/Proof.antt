@@ -13,41 +13,8 @@ Inv-copying bytes₀ model i₀ bytes i = (length bytes ≡ length bytes₀)
 abbrev μ-copying : tie.MeasureT-copying
 μ-copying bytes₀ model i₀ bytes i = length bytes₀ - i
 
-copying-holds : tie.Need-copying-holds Inv-copying μ-copying
-copying-holds c = search needs
-
-get-requires : tie.Need-get-requires Inv-copying μ-copying
-get-requires c κs = search needs
-
-slice-write-bytes : tie.Need-slice-write-bytes Inv-copying μ-copying
-slice-write-bytes c = search needs
-
-add-i : tie.Need-add-i Inv-copying μ-copying
-add-i c = search needs
-
-copying-less : tie.Need-copying-less Inv-copying μ-copying
-copying-less c = search needs
-
-copying-again : tie.Need-copying-again Inv-copying μ-copying
-copying-again c = search needs
-
-same-length : tie.Need-same-length Inv-copying μ-copying
-same-length c = search needs
-
-returns : tie.Need-returns Inv-copying μ-copying
-returns c = search needs
-
 pub copy-spec : {M : Type 1} → statement M
 copy-spec =
     tie.close
-    (tie.spec
-    Inv-copying
-    μ-copying
-    copying-holds
-    get-requires
-    slice-write-bytes
-    add-i
-    copying-less
-    copying-again
-    same-length
-    returns)
+    (tie.spec Inv-copying μ-copying (λ c. search needs) (λ c κs. search needs) (λ c. search needs) (λ c. search needs)
+    (λ c. search needs) (λ c. search needs) (λ c. search needs) (λ c. search needs))

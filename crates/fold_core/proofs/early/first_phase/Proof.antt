@@ -3,6 +3,7 @@
 use Prim.Native.Nat.{_-_, _≤_}
 use native.Mathlib.Omega.{arith}
 use Rattle.netlist.specs.FileFormat.{netlistOf}
+use borrow.Author.Needs.{needs}
 use Rattle.fold_core.proofs.EarlyLaws.{NoPhase, phase-missing, phase-here, phase-after}
 use Rattle.fold_core.proofs.early.first_phase.Statement.{statement}
 use Rattle.fold_core.proofs.early.first_phase.Tie as tie
@@ -20,36 +21,15 @@ row-phase-requires : tie.Need-row-phase-requires Inv-rows μ-rows
 row-phase-requires c κs = let R = c .before .before .before .pre in (omega (arith, R .few), R .inside (c .before .rows .row) (c .rows-test .taken))
 
 returns : tie.Need-returns Inv-rows μ-rows
-returns c =
-    let a = c .before .before .before .before .before in
-    let l = c .before .before .before .rows in
-    phase-here (a .args .file .now) (a .args .rows) (a .pre) (l .row) (c .before .before .rows-test .taken) (c .before .row-phase .result) (c .before .row-phase .ensures) (l .inv .1) (λ e. omega (arith, e))
-
-add-row : tie.Need-add-row Inv-rows μ-rows
-add-row c = omega arith
-
-rows-less : tie.Need-rows-less Inv-rows μ-rows
-rows-less c = omega arith
+returns c = search phase-here
 
 rows-again : tie.Need-rows-again Inv-rows μ-rows
-rows-again c =
-    let a = c .before .before .before .before .before in
-    let l = c .before .before .before .rows in
-    (omega arith, phase-after (a .args .file .now) (a .args .rows) (a .pre) (l .row) (c .before .before .rows-test .taken) (c .before .row-phase .result) (c .before .row-phase .ensures) (l .inv .1) (omega arith))
+rows-again c = search (phase-after, needs)
 
 returns-2 : tie.Need-returns-2 Inv-rows μ-rows
-returns-2 c = phase-missing (netlistOf (c .before .before .before .args .file .now)) (c .before .before .before .args .rows) (c .before .rows .row) (c .rows-test .left) (c .before .rows .inv .1)
+returns-2 c = search phase-missing
 
 pub first-phase-spec : {M : Type 1} → statement M
 first-phase-spec =
     tie.close
-    (tie.spec
-    Inv-rows
-    μ-rows
-    rows-holds
-    row-phase-requires
-    returns
-    add-row
-    rows-less
-    rows-again
-    returns-2)
+    (tie.spec Inv-rows μ-rows rows-holds row-phase-requires returns (λ c. omega arith) (λ c. omega arith) rows-again returns-2)

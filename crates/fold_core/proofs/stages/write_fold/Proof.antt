@@ -6,9 +6,6 @@ use Rattle.fold_core.proofs.StageLaws.{made-few, file-fits, fold-writte
 use Rattle.fold_core.proofs.stages.write_fold.Statement.{statement}
 use Rattle.fold_core.proofs.stages.write_fold.Tie as tie
 
-unroll-requires : tie.Need-unroll-requires
-unroll-requires c κs = search needs
-
 compact-rows-requires : tie.Need-compact-rows-requires
 compact-rows-requires c κs =
     let s = c .before .before .before .before .before .before .before .before .before .before .before .before in
@@ -24,12 +21,6 @@ write-file-requires c κs =
     (λ x. omega (arith, (c .before .before .before .before .before .before .before .before .before .before .before .before .before .before .before .before .before .shared-slice-known .given) x)) (k .last .0) (k .ensures .0) (search needs) in
     (omega (arith, f .0), omega (arith, f .1))
 
-same-length : tie.Need-same-length
-same-length c = search needs
-
-same-length-2 : tie.Need-same-length-2
-same-length-2 c = search needs
-
 returns : tie.Need-returns
 returns c =
     let s = c .before .before .before .before .before .before .before .before .before .before .before .before .before .before .before .before .before .before .before .before .before in
@@ -42,10 +33,4 @@ returns c =
 pub write-fold-spec : {M : Type 1} → statement M
 write-fold-spec =
     tie.close
-    (tie.spec
-    unroll-requires
-    compact-rows-requires
-    write-file-requires
-    same-length
-    same-length-2
-    returns)
+    (tie.spec (λ c κs. search needs) compact-rows-requires write-file-requires (λ c. search needs) (λ c. search needs) returns)

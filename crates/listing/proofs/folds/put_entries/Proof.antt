@@ -13,41 +13,8 @@ Inv-entries buffer₀ work used now₀ index₀ buffer now index = (index ≤ us
 abbrev μ-entries : tie.MeasureT-entries
 μ-entries buffer₀ work used now₀ index₀ buffer now index = used - index
 
-entries-holds : tie.Need-entries-holds Inv-entries μ-entries
-entries-holds c = search needs
-
-entry-of-requires : tie.Need-entry-of-requires Inv-entries μ-entries
-entry-of-requires c κs = search needs
-
-put-entry-requires : tie.Need-put-entry-requires Inv-entries μ-entries
-put-entry-requires c κs = search needs
-
-add-index : tie.Need-add-index Inv-entries μ-entries
-add-index c = search needs
-
-entries-less : tie.Need-entries-less Inv-entries μ-entries
-entries-less c = search needs
-
-entries-again : tie.Need-entries-again Inv-entries μ-entries
-entries-again c = search needs
-
-same-length : tie.Need-same-length Inv-entries μ-entries
-same-length c = search needs
-
-returns : tie.Need-returns Inv-entries μ-entries
-returns c = search needs
-
 pub put-entries-spec : {M : Type 1} → statement M
 put-entries-spec =
     tie.close
-    (tie.spec
-    Inv-entries
-    μ-entries
-    entries-holds
-    entry-of-requires
-    put-entry-requires
-    add-index
-    entries-less
-    entries-again
-    same-length
-    returns)
+    (tie.spec Inv-entries μ-entries (λ c. search needs) (λ c κs. search needs) (λ c κs. search needs) (λ c. search needs)
+    (λ c. search needs) (λ c. search needs) (λ c. search needs) (λ c. search needs))

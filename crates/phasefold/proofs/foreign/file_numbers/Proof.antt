@@ -7,17 +7,10 @@ use borrow.Author.Needs.{needs}
 use Rattle.phasefold.proofs.foreign.file_numbers.Statement.{statement}
 use Rattle.phasefold.proofs.foreign.file_numbers.Tie as tie
 
-number-of-requires : tie.Need-number-of-requires
-number-of-requires c κs = search needs
-
-place-of-requires : tie.Need-place-of-requires
-place-of-requires c κs = search needs
-
-told-requires : tie.Need-told-requires
-told-requires c κs = search needs
-
 returns : tie.Need-returns
 returns c = c .told .ensures ∙ flat-by (refusalIn (c .before .before .before .args .refusal)) (c .before .before .number-of .result) (c .before .place-of .result) (c .before .before .number-of .ensures) (c .before .place-of .ensures)
 
 pub file-numbers-spec : {M : Type 1} → statement M
-file-numbers-spec = tie.close (tie.spec number-of-requires place-of-requires told-requires returns)
+file-numbers-spec =
+    tie.close
+    (tie.spec (λ c κs. search needs) (λ c κs. search needs) (λ c κs. search needs) returns)

@@ -7,15 +7,6 @@ use borrow.Author.Needs.{needs}
 use Rattle.phasefold.proofs.foreign.folded_numbers.Statement.{statement}
 use Rattle.phasefold.proofs.foreign.folded_numbers.Tie as tie
 
-enum-known-answer : tie.Need-enum-known-answer
-enum-known-answer c = search needs
-
-enum-known-answer-2 : tie.Need-enum-known-answer-2
-enum-known-answer-2 c = search needs
-
-fold-numbers-requires : tie.Need-fold-numbers-requires
-fold-numbers-requires c κs = search needs
-
 returns : tie.Need-returns
 returns c = sym (ap foldedNumbers (c .before .answer .given .1))
 
@@ -25,4 +16,4 @@ returns-2 c = search fold-refused-flat
 pub folded-numbers-spec : {M : Type 1} → statement M
 folded-numbers-spec =
     tie.close
-    (tie.spec enum-known-answer enum-known-answer-2 fold-numbers-requires returns returns-2)
+    (tie.spec (λ c. search needs) (λ c. search needs) (λ c κs. search needs) returns returns-2)

@@ -9,21 +9,6 @@ use borrow.Author.Needs.{needs}
 use Rattle.phasefold.proofs.foreign.pf_check.Statement.{statement}
 use Rattle.phasefold.proofs.foreign.pf_check.Tie as tie
 
-check-requires : tie.Need-check-requires
-check-requires c κs = search needs
-
-enum-told : tie.Need-enum-told
-enum-told c = search needs
-
-told-requires : tie.Need-told-requires
-told-requires c κs = search needs
-
-enum-known-refusal : tie.Need-enum-known-refusal
-enum-known-refusal c = search needs
-
-file-numbers-requires : tie.Need-file-numbers-requires
-file-numbers-requires c κs = search needs
-
 returns : tie.Need-returns
 returns c = check-flat (c .before .before .before .before .before .args .file .now) (c .before .before .before .check .result) (c .before .before .before .check .ensures) (c .told .result) (c .told .ensures ∙ sym (ap (λ (q : Acceptance). refusalNumbers (acceptRefusal q)) (c .before .enum-told .given .1)))
 
@@ -33,11 +18,5 @@ returns-2 c = check-flat (c .before .before .before .before .before .before .arg
 pub pf-check-spec : {M : Type 1} → statement M
 pf-check-spec =
     tie.close
-    (tie.spec
-    check-requires
-    enum-told
-    told-requires
-    enum-known-refusal
-    file-numbers-requires
-    returns
+    (tie.spec (λ c κs. search needs) (λ c. search needs) (λ c κs. search needs) (λ c. search needs) (λ c κs. search needs) returns
     returns-2)

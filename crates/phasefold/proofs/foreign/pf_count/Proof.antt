@@ -5,20 +5,8 @@ use borrow.Author.Needs.{needs}
 use Rattle.phasefold.proofs.foreign.pf_count.Statement.{statement}
 use Rattle.phasefold.proofs.foreign.pf_count.Tie as tie
 
-count-requires : tie.Need-count-requires
-count-requires c κs = search needs
-
-enum-known-counts : tie.Need-enum-known-counts
-enum-known-counts c = search needs
-
 counts-numbers-requires : tie.Need-counts-numbers-requires
 counts-numbers-requires c κs = counts-fit (c .before .before .before .before .before .args .file .now) (c .before .before .before .count .result) (c .before .before .before .count .ensures) (c .before .counts .given .0 .0) (c .before .counts .given .1)
-
-enum-known-refusal : tie.Need-enum-known-refusal
-enum-known-refusal c = search needs
-
-file-numbers-requires : tie.Need-file-numbers-requires
-file-numbers-requires c κs = search needs
 
 returns : tie.Need-returns
 returns c = count-flat (c .before .before .before .before .before .before .args .file .now) (c .before .before .before .before .count .result) (c .before .before .before .before .count .ensures) (c .before .before .counts .given .0 .0) (c .before .before .counts .given .1) (c .counts-numbers .result) (c .counts-numbers .ensures)
@@ -29,11 +17,5 @@ returns-2 c = count-refused-flat (c .before .before .before .before .before .bef
 pub pf-count-spec : {M : Type 1} → statement M
 pf-count-spec =
     tie.close
-    (tie.spec
-    count-requires
-    enum-known-counts
-    counts-numbers-requires
-    enum-known-refusal
-    file-numbers-requires
-    returns
+    (tie.spec (λ c κs. search needs) (λ c. search needs) counts-numbers-requires (λ c. search needs) (λ c κs. search needs) returns
     returns-2)

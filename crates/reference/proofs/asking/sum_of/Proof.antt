@@ -11,45 +11,8 @@ Inv-words file start sum₀ i₀ sum i = i ≤ i
 abbrev μ-words : tie.MeasureT-words
 μ-words file start sum₀ i₀ sum i = 128 - i
 
-words-holds : tie.Need-words-holds Inv-words μ-words
-words-holds c = search needs
-
-mul-wrapping-add-usize : tie.Need-mul-wrapping-add-usize Inv-words μ-words
-mul-wrapping-add-usize c = search needs
-
-wrapping-add-usize-requires : tie.Need-wrapping-add-usize-requires Inv-words μ-words
-wrapping-add-usize-requires c κs = search needs
-
-long-requires : tie.Need-long-requires Inv-words μ-words
-long-requires c κs = search needs
-
-wrapping-add-u64-requires : tie.Need-wrapping-add-u64-requires Inv-words μ-words
-wrapping-add-u64-requires c κs = search needs
-
-add-i : tie.Need-add-i Inv-words μ-words
-add-i c = search needs
-
-words-less : tie.Need-words-less Inv-words μ-words
-words-less c = search needs
-
-words-again : tie.Need-words-again Inv-words μ-words
-words-again c = search needs
-
-returns : tie.Need-returns Inv-words μ-words
-returns c = search needs
-
 pub sum-of-spec : {M : Type 1} → statement M
 sum-of-spec =
     tie.close
-    (tie.spec
-    Inv-words
-    μ-words
-    words-holds
-    mul-wrapping-add-usize
-    wrapping-add-usize-requires
-    long-requires
-    wrapping-add-u64-requires
-    add-i
-    words-less
-    words-again
-    returns)
+    (tie.spec Inv-words μ-words (λ c. search needs) (λ c. search needs) (λ c κs. search needs) (λ c κs. search needs)
+    (λ c κs. search needs) (λ c. search needs) (λ c. search needs) (λ c. search needs) (λ c. search needs))

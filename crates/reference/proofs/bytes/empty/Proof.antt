@@ -13,37 +13,8 @@ Inv-bytes bytes₀ size i₀ bytes i = (length bytes ≡ length bytes₀)
 abbrev μ-bytes : tie.MeasureT-bytes
 μ-bytes bytes₀ size i₀ bytes i = size - i
 
-bytes-holds : tie.Need-bytes-holds Inv-bytes μ-bytes
-bytes-holds c = search needs
-
-put-byte-requires : tie.Need-put-byte-requires Inv-bytes μ-bytes
-put-byte-requires c κs = search needs
-
-add-i : tie.Need-add-i Inv-bytes μ-bytes
-add-i c = search needs
-
-bytes-less : tie.Need-bytes-less Inv-bytes μ-bytes
-bytes-less c = search needs
-
-bytes-again : tie.Need-bytes-again Inv-bytes μ-bytes
-bytes-again c = search needs
-
-same-length : tie.Need-same-length Inv-bytes μ-bytes
-same-length c = search needs
-
-returns : tie.Need-returns Inv-bytes μ-bytes
-returns c = search needs
-
 pub empty-spec : {M : Type 1} → statement M
 empty-spec =
     tie.close
-    (tie.spec
-    Inv-bytes
-    μ-bytes
-    bytes-holds
-    put-byte-requires
-    add-i
-    bytes-less
-    bytes-again
-    same-length
-    returns)
+    (tie.spec Inv-bytes μ-bytes (λ c. search needs) (λ c κs. search needs) (λ c. search needs) (λ c. search needs) (λ c. search needs)
+    (λ c. search needs) (λ c. search needs))

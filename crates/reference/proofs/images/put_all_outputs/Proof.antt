@@ -13,37 +13,8 @@ Inv-phases file count phases images made₀ rows sofar₀ phase₀ made sofar ph
 abbrev μ-phases : tie.MeasureT-phases
 μ-phases file count phases images made₀ rows sofar₀ phase₀ made sofar phase = phases - phase
 
-phases-holds : tie.Need-phases-holds Inv-phases μ-phases
-phases-holds c = search needs
-
-put-outputs-requires : tie.Need-put-outputs-requires Inv-phases μ-phases
-put-outputs-requires c κs = search needs
-
-add-phase : tie.Need-add-phase Inv-phases μ-phases
-add-phase c = search needs
-
-phases-less : tie.Need-phases-less Inv-phases μ-phases
-phases-less c = search needs
-
-phases-again : tie.Need-phases-again Inv-phases μ-phases
-phases-again c = search needs
-
-same-length : tie.Need-same-length Inv-phases μ-phases
-same-length c = search needs
-
-returns : tie.Need-returns Inv-phases μ-phases
-returns c = search needs
-
 pub put-all-outputs-spec : {M : Type 1} → statement M
 put-all-outputs-spec =
     tie.close
-    (tie.spec
-    Inv-phases
-    μ-phases
-    phases-holds
-    put-outputs-requires
-    add-phase
-    phases-less
-    phases-again
-    same-length
-    returns)
+    (tie.spec Inv-phases μ-phases (λ c. search needs) (λ c κs. search needs) (λ c. search needs) (λ c. search needs)
+    (λ c. search needs) (λ c. search needs) (λ c. search needs))

@@ -11,37 +11,8 @@ Inv-rows file rows kind count₀ row₀ count row = row ≤ row
 abbrev μ-rows : tie.MeasureT-rows
 μ-rows file rows kind count₀ row₀ count row = rows - row
 
-rows-holds : tie.Need-rows-holds Inv-rows μ-rows
-rows-holds c = search needs
-
-kind-at-requires : tie.Need-kind-at-requires Inv-rows μ-rows
-kind-at-requires c κs = search needs
-
-after-requires : tie.Need-after-requires Inv-rows μ-rows
-after-requires c κs = search needs
-
-add-row : tie.Need-add-row Inv-rows μ-rows
-add-row c = search needs
-
-rows-less : tie.Need-rows-less Inv-rows μ-rows
-rows-less c = search needs
-
-rows-again : tie.Need-rows-again Inv-rows μ-rows
-rows-again c = search needs
-
-returns : tie.Need-returns Inv-rows μ-rows
-returns c = search needs
-
 pub count-kind-spec : {M : Type 1} → statement M
 count-kind-spec =
     tie.close
-    (tie.spec
-    Inv-rows
-    μ-rows
-    rows-holds
-    kind-at-requires
-    after-requires
-    add-row
-    rows-less
-    rows-again
-    returns)
+    (tie.spec Inv-rows μ-rows (λ c. search needs) (λ c κs. search needs) (λ c κs. search needs) (λ c. search needs)
+    (λ c. search needs) (λ c. search needs) (λ c. search needs))

@@ -11,33 +11,8 @@ Inv-numbers periods count best₀ most₀ n₀ best most n = n ≤ n
 abbrev μ-numbers : tie.MeasureT-numbers
 μ-numbers periods count best₀ most₀ n₀ best most n = 9 - n
 
-numbers-holds : tie.Need-numbers-holds Inv-numbers μ-numbers
-numbers-holds c = search needs
-
-count-dividing-requires : tie.Need-count-dividing-requires Inv-numbers μ-numbers
-count-dividing-requires c κs = search needs
-
-add-n : tie.Need-add-n Inv-numbers μ-numbers
-add-n c = search needs
-
-numbers-less : tie.Need-numbers-less Inv-numbers μ-numbers
-numbers-less c = search needs
-
-numbers-again : tie.Need-numbers-again Inv-numbers μ-numbers
-numbers-again c = search needs
-
-returns : tie.Need-returns Inv-numbers μ-numbers
-returns c = search needs
-
 pub commonest-spec : {M : Type 1} → statement M
 commonest-spec =
     tie.close
-    (tie.spec
-    Inv-numbers
-    μ-numbers
-    numbers-holds
-    count-dividing-requires
-    add-n
-    numbers-less
-    numbers-again
-    returns)
+    (tie.spec Inv-numbers μ-numbers (λ c. search needs) (λ c κs. search needs) (λ c. search needs) (λ c. search needs)
+    (λ c. search needs) (λ c. search needs))

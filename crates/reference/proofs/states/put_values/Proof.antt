@@ -13,45 +13,8 @@ Inv-rows file rows values₀ at₀ values at = (length values ≡ length values�
 abbrev μ-rows : tie.MeasureT-rows
 μ-rows file rows values₀ at₀ values at = rows - at
 
-rows-holds : tie.Need-rows-holds Inv-rows μ-rows
-rows-holds c = search needs
-
-row-at-requires : tie.Need-row-at-requires Inv-rows μ-rows
-row-at-requires c κs = search needs
-
-value-of-requires : tie.Need-value-of-requires Inv-rows μ-rows
-value-of-requires c κs = search needs
-
-put-byte-requires : tie.Need-put-byte-requires Inv-rows μ-rows
-put-byte-requires c κs = search needs
-
-add-at : tie.Need-add-at Inv-rows μ-rows
-add-at c = search needs
-
-rows-less : tie.Need-rows-less Inv-rows μ-rows
-rows-less c = search needs
-
-rows-again : tie.Need-rows-again Inv-rows μ-rows
-rows-again c = search needs
-
-same-length : tie.Need-same-length Inv-rows μ-rows
-same-length c = search needs
-
-returns : tie.Need-returns Inv-rows μ-rows
-returns c = search needs
-
 pub put-values-spec : {M : Type 1} → statement M
 put-values-spec =
     tie.close
-    (tie.spec
-    Inv-rows
-    μ-rows
-    rows-holds
-    row-at-requires
-    value-of-requires
-    put-byte-requires
-    add-at
-    rows-less
-    rows-again
-    same-length
-    returns)
+    (tie.spec Inv-rows μ-rows (λ c. search needs) (λ c κs. search needs) (λ c κs. search needs) (λ c κs. search needs)
+    (λ c. search needs) (λ c. search needs) (λ c. search needs) (λ c. search needs) (λ c. search needs))

@@ -13,57 +13,9 @@ Inv-registers file registers count values states₀ state j₀ states j = (lengt
 abbrev μ-registers : tie.MeasureT-registers
 μ-registers file registers count values states₀ state j₀ states j = count - j
 
-registers-holds : tie.Need-registers-holds Inv-registers μ-registers
-registers-holds c = search needs
-
-word-requires : tie.Need-word-requires Inv-registers μ-registers
-word-requires c κs = search needs
-
-cast-at : tie.Need-cast-at Inv-registers μ-registers
-cast-at c = search needs
-
-row-at-requires : tie.Need-row-at-requires Inv-registers μ-registers
-row-at-requires c κs = search needs
-
-cell-requires : tie.Need-cell-requires Inv-registers μ-registers
-cell-requires c κs = search needs
-
-literal-value-requires : tie.Need-literal-value-requires Inv-registers μ-registers
-literal-value-requires c κs = search needs
-
-put-byte-requires : tie.Need-put-byte-requires Inv-registers μ-registers
-put-byte-requires c κs = search needs
-
-add-j : tie.Need-add-j Inv-registers μ-registers
-add-j c = search needs
-
-registers-less : tie.Need-registers-less Inv-registers μ-registers
-registers-less c = search needs
-
-registers-again : tie.Need-registers-again Inv-registers μ-registers
-registers-again c = search needs
-
-same-length : tie.Need-same-length Inv-registers μ-registers
-same-length c = search needs
-
-returns : tie.Need-returns Inv-registers μ-registers
-returns c = search needs
-
 pub store-state-spec : {M : Type 1} → statement M
 store-state-spec =
     tie.close
-    (tie.spec
-    Inv-registers
-    μ-registers
-    registers-holds
-    word-requires
-    cast-at
-    row-at-requires
-    cell-requires
-    literal-value-requires
-    put-byte-requires
-    add-j
-    registers-less
-    registers-again
-    same-length
-    returns)
+    (tie.spec Inv-registers μ-registers (λ c. search needs) (λ c κs. search needs) (λ c. search needs) (λ c κs. search needs)
+    (λ c κs. search needs) (λ c κs. search needs) (λ c κs. search needs) (λ c. search needs) (λ c. search needs) (λ c. search needs)
+    (λ c. search needs) (λ c. search needs))

@@ -13,45 +13,8 @@ Inv-rows file rows values shown₀ from next₀ at₀ shown next at = (length sh
 abbrev μ-rows : tie.MeasureT-rows
 μ-rows file rows values shown₀ from next₀ at₀ shown next at = rows - at
 
-rows-holds : tie.Need-rows-holds Inv-rows μ-rows
-rows-holds c = search needs
-
-row-at-requires : tie.Need-row-at-requires Inv-rows μ-rows
-row-at-requires c κs = search needs
-
-byte-requires : tie.Need-byte-requires Inv-rows μ-rows
-byte-requires c κs = search needs
-
-show-row-requires : tie.Need-show-row-requires Inv-rows μ-rows
-show-row-requires c κs = search needs
-
-add-at : tie.Need-add-at Inv-rows μ-rows
-add-at c = search needs
-
-rows-less : tie.Need-rows-less Inv-rows μ-rows
-rows-less c = search needs
-
-rows-again : tie.Need-rows-again Inv-rows μ-rows
-rows-again c = search needs
-
-same-length : tie.Need-same-length Inv-rows μ-rows
-same-length c = search needs
-
-returns : tie.Need-returns Inv-rows μ-rows
-returns c = search needs
-
 pub show-spec : {M : Type 1} → statement M
 show-spec =
     tie.close
-    (tie.spec
-    Inv-rows
-    μ-rows
-    rows-holds
-    row-at-requires
-    byte-requires
-    show-row-requires
-    add-at
-    rows-less
-    rows-again
-    same-length
-    returns)
+    (tie.spec Inv-rows μ-rows (λ c. search needs) (λ c κs. search needs) (λ c κs. search needs) (λ c κs. search needs)
+    (λ c. search needs) (λ c. search needs) (λ c. search needs) (λ c. search needs) (λ c. search needs))

@@ -13,53 +13,9 @@ Inv-rows file rows choices held₀ next₀ at₀ held next at = (length held ≡
 abbrev μ-rows : tie.MeasureT-rows
 μ-rows file rows choices held₀ next₀ at₀ held next at = rows - at
 
-rows-holds : tie.Need-rows-holds Inv-rows μ-rows
-rows-holds c = search needs
-
-row-at-requires : tie.Need-row-at-requires Inv-rows μ-rows
-row-at-requires c κs = search needs
-
-chosen-requires : tie.Need-chosen-requires Inv-rows μ-rows
-chosen-requires c κs = search needs
-
-byte-requires : tie.Need-byte-requires Inv-rows μ-rows
-byte-requires c κs = search needs
-
-put-byte-requires : tie.Need-put-byte-requires Inv-rows μ-rows
-put-byte-requires c κs = search needs
-
-next-if-requires : tie.Need-next-if-requires Inv-rows μ-rows
-next-if-requires c κs = search needs
-
-add-at : tie.Need-add-at Inv-rows μ-rows
-add-at c = search needs
-
-rows-less : tie.Need-rows-less Inv-rows μ-rows
-rows-less c = search needs
-
-rows-again : tie.Need-rows-again Inv-rows μ-rows
-rows-again c = search needs
-
-same-length : tie.Need-same-length Inv-rows μ-rows
-same-length c = search needs
-
-returns : tie.Need-returns Inv-rows μ-rows
-returns c = search needs
-
 pub start-spec : {M : Type 1} → statement M
 start-spec =
     tie.close
-    (tie.spec
-    Inv-rows
-    μ-rows
-    rows-holds
-    row-at-requires
-    chosen-requires
-    byte-requires
-    put-byte-requires
-    next-if-requires
-    add-at
-    rows-less
-    rows-again
-    same-length
-    returns)
+    (tie.spec Inv-rows μ-rows (λ c. search needs) (λ c κs. search needs) (λ c κs. search needs) (λ c κs. search needs)
+    (λ c κs. search needs) (λ c κs. search needs) (λ c. search needs) (λ c. search needs) (λ c. search needs) (λ c. search needs)
+    (λ c. search needs))

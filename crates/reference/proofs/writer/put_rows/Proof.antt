@@ -13,37 +13,8 @@ Inv-rows made rows marks result₀ row₀ result row = (length result ≡ length
 abbrev μ-rows : tie.MeasureT-rows
 μ-rows made rows marks result₀ row₀ result row = rows - row
 
-rows-holds : tie.Need-rows-holds Inv-rows μ-rows
-rows-holds c = search needs
-
-put-kept-requires : tie.Need-put-kept-requires Inv-rows μ-rows
-put-kept-requires c κs = search needs
-
-add-row : tie.Need-add-row Inv-rows μ-rows
-add-row c = search needs
-
-rows-less : tie.Need-rows-less Inv-rows μ-rows
-rows-less c = search needs
-
-rows-again : tie.Need-rows-again Inv-rows μ-rows
-rows-again c = search needs
-
-same-length : tie.Need-same-length Inv-rows μ-rows
-same-length c = search needs
-
-returns : tie.Need-returns Inv-rows μ-rows
-returns c = search needs
-
 pub put-rows-spec : {M : Type 1} → statement M
 put-rows-spec =
     tie.close
-    (tie.spec
-    Inv-rows
-    μ-rows
-    rows-holds
-    put-kept-requires
-    add-row
-    rows-less
-    rows-again
-    same-length
-    returns)
+    (tie.spec Inv-rows μ-rows (λ c. search needs) (λ c κs. search needs) (λ c. search needs) (λ c. search needs) (λ c. search needs)
+    (λ c. search needs) (λ c. search needs))

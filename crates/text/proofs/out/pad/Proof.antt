@@ -13,37 +13,8 @@ Inv-blanks buffer₀ count now₀ i₀ buffer now i = (i ≤ count) × (length b
 abbrev μ-blanks : tie.MeasureT-blanks
 μ-blanks buffer₀ count now₀ i₀ buffer now i = count - i
 
-blanks-holds : tie.Need-blanks-holds Inv-blanks μ-blanks
-blanks-holds c = search needs
-
-put-byte-requires : tie.Need-put-byte-requires Inv-blanks μ-blanks
-put-byte-requires c κs = search needs
-
-add-i : tie.Need-add-i Inv-blanks μ-blanks
-add-i c = search needs
-
-blanks-less : tie.Need-blanks-less Inv-blanks μ-blanks
-blanks-less c = search needs
-
-blanks-again : tie.Need-blanks-again Inv-blanks μ-blanks
-blanks-again c = search needs
-
-same-length : tie.Need-same-length Inv-blanks μ-blanks
-same-length c = search needs
-
-returns : tie.Need-returns Inv-blanks μ-blanks
-returns c = search needs
-
 pub pad-spec : {M : Type 1} → statement M
 pad-spec =
     tie.close
-    (tie.spec
-    Inv-blanks
-    μ-blanks
-    blanks-holds
-    put-byte-requires
-    add-i
-    blanks-less
-    blanks-again
-    same-length
-    returns)
+    (tie.spec Inv-blanks μ-blanks (λ c. search needs) (λ c κs. search needs) (λ c. search needs) (λ c. search needs)
+    (λ c. search needs) (λ c. search needs) (λ c. search needs))

@@ -13,49 +13,8 @@ Inv-bytes buffer₀ sentence numbers now₀ count₀ i₀ buffer now count i = (
 abbrev μ-bytes : tie.MeasureT-bytes
 μ-bytes buffer₀ sentence numbers now₀ count₀ i₀ buffer now count i = length sentence - i
 
-bytes-holds : tie.Need-bytes-holds Inv-bytes μ-bytes
-bytes-holds c = search needs
-
-shared-slice-read-byte : tie.Need-shared-slice-read-byte Inv-bytes μ-bytes
-shared-slice-read-byte c = search needs
-
-next-number-requires : tie.Need-next-number-requires Inv-bytes μ-bytes
-next-number-requires c κs = search needs
-
-put-filled-byte-requires : tie.Need-put-filled-byte-requires Inv-bytes μ-bytes
-put-filled-byte-requires c κs = search needs
-
-count-filled-requires : tie.Need-count-filled-requires Inv-bytes μ-bytes
-count-filled-requires c κs = search needs
-
-add-i : tie.Need-add-i Inv-bytes μ-bytes
-add-i c = search needs
-
-bytes-less : tie.Need-bytes-less Inv-bytes μ-bytes
-bytes-less c = search needs
-
-bytes-again : tie.Need-bytes-again Inv-bytes μ-bytes
-bytes-again c = search needs
-
-same-length : tie.Need-same-length Inv-bytes μ-bytes
-same-length c = search needs
-
-returns : tie.Need-returns Inv-bytes μ-bytes
-returns c = search needs
-
 pub put-filled-spec : {M : Type 1} → statement M
 put-filled-spec =
     tie.close
-    (tie.spec
-    Inv-bytes
-    μ-bytes
-    bytes-holds
-    shared-slice-read-byte
-    next-number-requires
-    put-filled-byte-requires
-    count-filled-requires
-    add-i
-    bytes-less
-    bytes-again
-    same-length
-    returns)
+    (tie.spec Inv-bytes μ-bytes (λ c. search needs) (λ c. search needs) (λ c κs. search needs) (λ c κs. search needs)
+    (λ c κs. search needs) (λ c. search needs) (λ c. search needs) (λ c. search needs) (λ c. search needs) (λ c. search needs))

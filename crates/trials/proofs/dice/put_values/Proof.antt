@@ -13,41 +13,8 @@ Inv-values bytes₀ seed₀ count i₀ bytes seed i = (length bytes ≡ length b
 abbrev μ-values : tie.MeasureT-values
 μ-values bytes₀ seed₀ count i₀ bytes seed i = count - i
 
-values-holds : tie.Need-values-holds Inv-values μ-values
-values-holds c = search needs
-
-roll-u8-requires : tie.Need-roll-u8-requires Inv-values μ-values
-roll-u8-requires c κs = search needs
-
-put-requires : tie.Need-put-requires Inv-values μ-values
-put-requires c κs = search needs
-
-add-i : tie.Need-add-i Inv-values μ-values
-add-i c = search needs
-
-values-less : tie.Need-values-less Inv-values μ-values
-values-less c = search needs
-
-values-again : tie.Need-values-again Inv-values μ-values
-values-again c = search needs
-
-same-length : tie.Need-same-length Inv-values μ-values
-same-length c = search needs
-
-returns : tie.Need-returns Inv-values μ-values
-returns c = search needs
-
 pub put-values-spec : {M : Type 1} → statement M
 put-values-spec =
     tie.close
-    (tie.spec
-    Inv-values
-    μ-values
-    values-holds
-    roll-u8-requires
-    put-requires
-    add-i
-    values-less
-    values-again
-    same-length
-    returns)
+    (tie.spec Inv-values μ-values (λ c. search needs) (λ c κs. search needs) (λ c κs. search needs) (λ c. search needs)
+    (λ c. search needs) (λ c. search needs) (λ c. search needs) (λ c. search needs))

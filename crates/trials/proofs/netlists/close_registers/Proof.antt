@@ -13,37 +13,8 @@ Inv-rows file₀ seed₀ nodes at₀ file seed at = (length file ≡ length file
 abbrev μ-rows : tie.MeasureT-rows
 μ-rows file₀ seed₀ nodes at₀ file seed at = nodes - at
 
-rows-holds : tie.Need-rows-holds Inv-rows μ-rows
-rows-holds c = search needs
-
-close-register-requires : tie.Need-close-register-requires Inv-rows μ-rows
-close-register-requires c κs = search needs
-
-add-at : tie.Need-add-at Inv-rows μ-rows
-add-at c = search needs
-
-rows-less : tie.Need-rows-less Inv-rows μ-rows
-rows-less c = search needs
-
-rows-again : tie.Need-rows-again Inv-rows μ-rows
-rows-again c = search needs
-
-same-length : tie.Need-same-length Inv-rows μ-rows
-same-length c = search needs
-
-returns : tie.Need-returns Inv-rows μ-rows
-returns c = search needs
-
 pub close-registers-spec : {M : Type 1} → statement M
 close-registers-spec =
     tie.close
-    (tie.spec
-    Inv-rows
-    μ-rows
-    rows-holds
-    close-register-requires
-    add-at
-    rows-less
-    rows-again
-    same-length
-    returns)
+    (tie.spec Inv-rows μ-rows (λ c. search needs) (λ c κs. search needs) (λ c. search needs) (λ c. search needs) (λ c. search needs)
+    (λ c. search needs) (λ c. search needs))

@@ -13,45 +13,8 @@ Inv-rows fold sizes map inputs given₀ rows column₀ at₀ given column at = (
 abbrev μ-rows : tie.MeasureT-rows
 μ-rows fold sizes map inputs given₀ rows column₀ at₀ given column at = rows - at
 
-rows-of-requires : tie.Need-rows-of-requires Inv-rows μ-rows
-rows-of-requires c κs = search needs
-
-rows-holds : tie.Need-rows-holds Inv-rows μ-rows
-rows-holds c = search needs
-
-row-at-requires : tie.Need-row-at-requires Inv-rows μ-rows
-row-at-requires c κs = search needs
-
-fill-row-requires : tie.Need-fill-row-requires Inv-rows μ-rows
-fill-row-requires c κs = search needs
-
-add-at : tie.Need-add-at Inv-rows μ-rows
-add-at c = search needs
-
-rows-less : tie.Need-rows-less Inv-rows μ-rows
-rows-less c = search needs
-
-rows-again : tie.Need-rows-again Inv-rows μ-rows
-rows-again c = search needs
-
-same-length : tie.Need-same-length Inv-rows μ-rows
-same-length c = search needs
-
-returns : tie.Need-returns Inv-rows μ-rows
-returns c = search needs
-
 pub fill-inputs-spec : {M : Type 1} → statement M
 fill-inputs-spec =
     tie.close
-    (tie.spec
-    Inv-rows
-    μ-rows
-    rows-of-requires
-    rows-holds
-    row-at-requires
-    fill-row-requires
-    add-at
-    rows-less
-    rows-again
-    same-length
-    returns)
+    (tie.spec Inv-rows μ-rows (λ c κs. search needs) (λ c. search needs) (λ c κs. search needs) (λ c κs. search needs)
+    (λ c. search needs) (λ c. search needs) (λ c. search needs) (λ c. search needs) (λ c. search needs))

@@ -13,8 +13,7 @@ product-fits ha hb = lt-of-le-of-lt (mul-le-mul (le-of-lt ha) (le-of-lt hb)) (om
 mul-result : tie.Need-mul-result
 mul-result c = record { fits = product-fits (search needs) (search needs) }
 
-returns : tie.Need-returns
-returns c = search needs
-
 pub times-spec : {M : Type 1} → statement M
-times-spec = tie.close (tie.spec mul-result returns)
+times-spec =
+    tie.close
+    (tie.spec mul-result (λ c. search needs))

@@ -1,8 +1,0 @@
--- Laws of the fold's stages.
-pub mod StoredBytes
-pub mod ImageWays
-pub mod UnrollFacts
-pub mod PhaseLaws
-pub mod PatchLaws
-pub mod OutputLaws
-pub mod UnrolledWhole

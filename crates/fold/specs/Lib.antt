@@ -1,2 +1,0 @@
--- The stages of the fold in memory.
-pub mod UnrollMap

@@ -1,2 +1,0 @@
-// The fold, stage by stage.
-pub mod unroll;

@@ -1,0 +1,3 @@
+-- Laws of Fold's questions.
+pub mod FoldAccepted
+pub mod FoldRefusalMeaning

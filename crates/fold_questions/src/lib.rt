@@ -1,0 +1,1 @@
+// Fold's questions, 11 to 16: definitions and laws.

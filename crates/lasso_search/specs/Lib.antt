@@ -1,0 +1,2 @@
+-- What the search for the lasso leaves.
+pub mod SearchStage

@@ -1,0 +1,3 @@
+-- Laws of the periods, and of how many divide a number.
+pub mod PeriodLaws
+pub mod CountLaws

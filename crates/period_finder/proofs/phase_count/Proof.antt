@@ -1,0 +1,20 @@
+-- `phase_count` meets its contract.
+-- Assumes nothing.
+use mathlib.Core.Path.{sym}
+use Rattle.lasso.proofs.PhaseCountLaws.{phases-wish}
+use Rattle.period_finder.specs.PeriodStage.{periodBytes}
+use Rattle.period_finder.proofs.CountLaws.{wish-none}
+use borrow.Author.Needs.{needs}
+use Rattle.period_finder.proofs.phase_count.Statement.{statement}
+use Rattle.period_finder.proofs.phase_count.Tie as tie
+
+returns : tie.Need-returns
+returns c = search wish-none
+
+returns-2 : tie.Need-returns-2
+returns-2 c = sym (phases-wish (c .before .before .args .wish) (periodBytes (c .before .before .args .work .now) (c .before .before .args .rows)) (search needs))
+
+pub phase-count-spec : {M : Type 1} → statement M
+phase-count-spec =
+    tie.close
+    (tie.spec (λ c κs. search needs) returns returns-2)

@@ -1,0 +1,2 @@
+-- The periods in the work memory.
+pub mod PeriodStage

@@ -1,0 +1,22 @@
+-- `literal_value` meets its contract: the row's value, inverted by XOR with the literal's last bit.
+-- Assumes nothing.
+use Prim.Native.Nat.{_/_}
+use native.Mathlib.Omega.{arith}
+use Rattle.ternary_step.proofs.StateLaws.{literal-by}
+use borrow.Author.Needs.{needs}
+use Rattle.ternary_step.proofs.literal_value.Statement.{statement}
+use Rattle.ternary_step.proofs.literal_value.Tie as tie
+
+shared-slice-read-value : tie.Need-shared-slice-read-value
+shared-slice-read-value c = search needs
+
+xor-code-requires : tie.Need-xor-code-requires
+xor-code-requires c κs = (omega arith, (c .before .before .pre .1 .code (c .before .before .args .literal / 2) (c .before .before .pre .0)))
+
+returns : tie.Need-returns
+returns c = search literal-by
+
+pub literal-value-spec : {M : Type 1} → statement M
+literal-value-spec =
+    tie.close
+    (tie.spec (λ c. search needs) shared-slice-read-value (λ c. search needs) xor-code-requires returns)

@@ -1,0 +1,2 @@
+-- The unrolling in memory.
+pub mod UnrollMap

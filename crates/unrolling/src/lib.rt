@@ -1,0 +1,2 @@
+// The unrolling of a netlist into N phases.
+pub mod unroll;
