@@ -21,7 +21,7 @@ use Rattle.netlist.proofs.RowLaws.{named-alike}
 use Rattle.netlist.specs.WellFormed.{SameName}
 use Rattle.questions.specs.Questions.{labelIsNew}
 use Rattle.questions.proofs.PlainWords.{labelIsNew-iff}
-use Rattle.accept.specs.Marks.{labels, allSlots, slotOf, markBytes, bitOfSlot, markAt, withBit, NamesMarked}
+use Rattle.accept.specs.Marks.{labels, allSlots, slotOf, markBytes, bitOfSlot, takenBit, withBit, NamesMarked}
 
 -- ---- bits
 
@@ -56,10 +56,10 @@ module _ (marks : List ℕ) (s : ℕ) (inside : s / 8 < length marks) where
   byte-is = getD-set-same marks (s / 8) byte 0 inside
 
   -- The bit is set, and no other is cleared.
-  bit-here : markAt (withBit marks s) s ≡ 1
+  bit-here : takenBit (withBit marks s) s ≡ 1
   bit-here = ap (λ (b : ℕ). b / 2 ^ (s % 8) % 2) (byte-is ∙ or-comm (byteAt marks (s / 8)) mark) ∙ or-left mark (byteAt marks (s / 8)) (s % 8) (mark-bit (s % 8))
 
-  bits-kept : (t : ℕ) → markAt marks t ≡ 1 → markAt (withBit marks s) t ≡ 1
+  bits-kept : (t : ℕ) → takenBit marks t ≡ 1 → takenBit (withBit marks s) t ≡ 1
   bits-kept t h = elim (ℕ-discrete (s / 8) (t / 8)) [
     | yes e ↦
         subst (λ (x : ℕ). byteAt marks x / 2 ^ (t % 8) % 2 ≡ 1 → byteAt (withBit marks s) x / 2 ^ (t % 8) % 2 ≡ 1) e
@@ -93,10 +93,10 @@ marks-none few rows marks size = record { size = size; taken = λ j l. absurd (o
 
 module _ {few : Bool} {rows : List Row} {i : ℕ} {marks : List ℕ} (M : NamesMarked few rows i marks) where
   -- The marks of one row more: no bit was cleared, and its name's is set.
-  marks-more : (after : List ℕ) → length after ≡ length marks → ((t : ℕ) → markAt marks t ≡ 1 → markAt after t ≡ 1) → (hasName (rowAt rows i) ≡ true → markAt after (bitOfSlot few (slotOf (rowAt rows i))) ≡ 1) → NamesMarked few rows (i + 1) after
+  marks-more : (after : List ℕ) → length after ≡ length marks → ((t : ℕ) → takenBit marks t ≡ 1 → takenBit after t ≡ 1) → (hasName (rowAt rows i) ≡ true → takenBit after (bitOfSlot few (slotOf (rowAt rows i))) ≡ 1) → NamesMarked few rows (i + 1) after
   marks-more after size kept here = record { size = size ∙ M .size; taken = λ j l. go j (omega (arith, l)) }
     where
-      go : (j : ℕ) → j < suc i → hasName (rowAt rows j) ≡ true → markAt after (bitOfSlot few (slotOf (rowAt rows j))) ≡ 1
+      go : (j : ℕ) → j < suc i → hasName (rowAt rows j) ≡ true → takenBit after (bitOfSlot few (slotOf (rowAt rows j))) ≡ 1
       go j l h = last-or j i l (λ m. kept (bitOfSlot few (slotOf (rowAt rows j))) (M .taken j m h)) (λ e. rw e (here (rw e at h)))
 
   -- A row without a name: its name is not taken, and the marks may stay.
@@ -115,12 +115,12 @@ module _ {few : Bool} {rows : List Row} {i : ℕ} {marks : List ℕ} (M : NamesM
     pub marks-named : slot < allSlots → {after : List ℕ} → after ≡ withBit marks bit → NamesMarked few rows (i + 1) after
     marks-named h e =
         let inside : bit / 8 < length marks = omega (arith, bit-is, bit-inside few slot (length marks) h (M .size)) in
-        rw e (marks-more (withBit marks bit) (length-set marks (bit / 8) _) (bits-kept marks bit inside) (λ _. subst (λ (b : ℕ). markAt (withBit marks bit) b ≡ 1) bit-of-name (bit-here marks bit inside)))
+        rw e (marks-more (withBit marks bit) (length-set marks (bit / 8) _) (bits-kept marks bit inside) (λ _. subst (λ (b : ℕ). takenBit (withBit marks bit) b ≡ 1) bit-of-name (bit-here marks bit inside)))
 
-    pub label-free : {free : Bool} → free ≡ eqb (markAt marks bit) 0 → free ≡ true → true ≡ labelIsNew rows i
+    pub label-free : {free : Bool} → free ≡ eqb (takenBit marks bit) 0 → free ≡ true → true ≡ labelIsNew rows i
     label-free r e =
-        let z = eqb-true (markAt marks bit) 0 (sym r ∙ e) in
+        let z = eqb-true (takenBit marks bit) 0 (sym r ∙ e) in
         sym (labelIsNew-iff rows i .1 (λ j l n.
         let t = M .taken j l (named-alike (rowAt rows i) (rowAt rows j) (n .1 .kind) (n .0)) in
-        let q = ap (markAt marks) (bit-of-name ∙ ap (bitOfSlot few) (same-slot (rowAt rows i) (rowAt rows j) (n .1))) in
+        let q = ap (takenBit marks) (bit-of-name ∙ ap (bitOfSlot few) (same-slot (rowAt rows i) (rowAt rows j) (n .1))) in
         omega (arith, z, t, q)))

@@ -43,8 +43,8 @@ markBytes few = cond few fewBits allSlots / 8
 abbrev pub bitOfSlot : Bool → ℕ → ℕ
 bitOfSlot few slot = cond few ((slot + slot / labels * 352) % fewBits) slot
 
-abbrev pub markAt : List ℕ → ℕ → ℕ
-markAt marks s = byteAt marks (s / 8) / 2 ^ (s % 8) % 2
+abbrev pub takenBit : List ℕ → ℕ → ℕ
+takenBit marks s = byteAt marks (s / 8) / 2 ^ (s % 8) % 2
 
 -- The marks with bit s set.
 abbrev pub withBit : List ℕ → ℕ → List ℕ
@@ -53,4 +53,4 @@ withBit marks s = set marks (s / 8) (bitOr (byteAt marks (s / 8)) (2 ^ (s % 8)))
 -- Each name of the first n rows has its bit set; so a name whose bit is not set is new. This only limits the marks: a bit that no name has may be set too, since nothing rests on it but a comparison more.
 pub record NamesMarked (few : Bool) (rows : List Row) (n : ℕ) (marks : List ℕ) : Type 0 where
   pub size : length marks ≡ markBytes few
-  pub taken : (j : ℕ) → j < n → hasName (rowAt rows j) ≡ true → markAt marks (bitOfSlot few (slotOf (rowAt rows j))) ≡ 1
+  pub taken : (j : ℕ) → j < n → hasName (rowAt rows j) ≡ true → takenBit marks (bitOfSlot few (slotOf (rowAt rows j))) ≡ 1

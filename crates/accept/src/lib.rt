@@ -21,7 +21,7 @@ ghost use Rattle.blockfile.specs.RowCode.{fieldsIn, Small};
 ghost use Rattle.blockfile.specs.BlockCode.{blockNumber};
 ghost use Rattle.accept.specs.Refusals.{numberOf, placeOf, acceptRefusal, refusalAt, blocksRefusal};
 ghost use Rattle.accept.specs.RowChecks.{BlocksRight, RowsOf, onlyNodes, TestsOf};
-ghost use Rattle.accept.specs.Marks.{allSlots, slotOf, markBytes, bitOfSlot, markAt, withBit, NamesMarked};
+ghost use Rattle.accept.specs.Marks.{allSlots, slotOf, markBytes, bitOfSlot, takenBit, withBit, NamesMarked};
 use blockfile::Fields;
 use blockfile::blocks::BlockAnswer;
 use blockfile::both;
@@ -264,7 +264,7 @@ fn bit_of(few: bool, slot: usize) -> usize
 // Whether the bit is free; it is set afterwards.
 fn mark_new(marks: &mut [u8], bit: usize) -> bool
     requires { ⌜ bit < 8 * length (now marks) ⌝ }
-    ensures { λ r. ⌜ (r ≡ eqb (markAt (now (marks .entry)) bit) 0) × (now (marks .exit) ≡ withBit (now (marks .entry)) bit) ⌝ }
+    ensures { λ r. ⌜ (r ≡ eqb (takenBit (now (marks .entry)) bit) 0) × (now (marks .exit) ≡ withBit (now (marks .entry)) bit) ⌝ }
 {
     let at = bit / 8;
     let shift = bit % 8;
