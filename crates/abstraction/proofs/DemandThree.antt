@@ -17,8 +17,8 @@ use Rattle.ternary.specs.Ternary.{Ternary}
 use Rattle.ternary.proofs.RuleLaws.{Covers}
 use Rattle.netlist.specs.Rows.{Row, constant, input, register, andGate, xorGate, muxGate, output, encodeRow, rowAt, kindOf, labelOf, phaseOf, hasName, isUnknown, isNamed, rowNamed, firstRow, HasRow, HasInput, HasRegister, HasUnknown, HasOutput}
 use Rattle.netlist.specs.Simulation.{boolLogic, valueAt, runState, runValue, RunValues, outputShows, registerHolds}
-use Rattle.netlist.proofs.RowLaws.{RowIn, named-is, named-of, named-input, named-register, named-output, unknown-is, unknown-of, has-at, has-of}
-use Rattle.netlist.specs.WellFormed.{ResetIn, AcceptedRows}
+use Rattle.netlist.proofs.RowLaws.{RowIn, well-formed, named-is, named-of, named-input, named-register, named-output, unknown-is, unknown-of, has-at, has-of}
+use Rattle.netlist.specs.WellFormed.{ResetIn, FoldableRows}
 use Rattle.netlist.proofs.SimulationLaws.{state-prefix, value-prefix}
 use Rattle.lasso.specs.LassoSearch.{Lasso, findLasso}
 use Rattle.lasso.specs.Generators.{periodsOf, clockValue}
@@ -30,17 +30,17 @@ use Rattle.abstraction.specs.SameBehaviour.{FedAlike, AgreeOnKept, SameB
 use Rattle.abstraction.proofs.FoldedRun.{folded, origin, output-kept, Follows, follows}
 
 -- A row of an accepted original, by its kind and label.
-module _ (rows : List Row) (ok : AcceptedRows rows) where
+module _ (rows : List Row) (ok : FoldableRows rows) where
   one-row : (k l x y : ℕ) → x < length rows → y < length rows → isNamed k l 0 (rowAt rows x) ≡ true → kindOf (rowAt rows y) ≡ k → labelOf (rowAt rows y) ≡ l → hasName (rowAt rows y) ≡ true → y ≡ x
   one-row k l x y h h′ e a b t =
       let n = named-is k l 0 (rowAt rows x) e in
-      ok .unique y x h′ h t (record { kind = a ∙ sym (n .0); label = b ∙ sym (n .1); phase = ok .formed .phases y h′ ∙ sym (n .2) })
+      ok .checked .unique y x h′ h t (record { kind = a ∙ sym (n .0); label = b ∙ sym (n .1); phase = ok .unphased y h′ ∙ sym (n .2) })
 
   -- The kind and the label are enough, since every phase is 0.
   has-named : (k l y : ℕ) → y < length rows → kindOf (rowAt rows y) ≡ k → labelOf (rowAt rows y) ≡ l → HasRow (isNamed k l 0) rows
-  has-named k l y h a b = has-of (isNamed k l 0) rows y h (named-of k l 0 (rowAt rows y) a b (ok .formed .phases y h))
+  has-named k l y h a b = has-of (isNamed k l 0) rows y h (named-of k l 0 (rowAt rows y) a b (ok .unphased y h))
 
-module _ (rows : List Row) (ok : AcceptedRows rows) (M : ℕ) (clock : ℕ → ℕ → Ternary)
+module _ (rows : List Row) (ok : FoldableRows rows) (M : ℕ) (clock : ℕ → ℕ → Ternary)
     (covered : (c : ℕ → Bool) (u : ℕ → ℕ → ℕ → Bool) (t x : ℕ) → Covers (clock x (t % suc M)) (valueAt boolLogic (runState boolLogic rows c u t) x))
   where
     abbrev N : ℕ
@@ -62,7 +62,7 @@ module _ (rows : List Row) (ok : AcceptedRows rows) (M : ℕ) (clock : ℕ → �
           let o = origin clock rows M (h .place) (h .within) (ap hasName (h .is)) in
           let z : encodeRow (rowAt rows (o .row)) .reset ≡ suc (suc r) = sym (o .reset) ∙ ap (λ (x : Row). encodeRow x .reset) (h .is) in
           let k : kindOf (rowAt rows (o .row)) ≡ 2 = sym (o .kind) ∙ ap kindOf (h .is) in
-          let e : r ≡ 0 = unknown-reset (rowAt rows (o .row)) k z (ok .resets (o .row) (o .within)) in
+          let e : r ≡ 0 = unknown-reset (rowAt rows (o .row)) k z (ok .checked .resets (o .row) (o .within)) in
           fed .choices l (has-of (λ x. isUnknown x && eqb (labelOf x) l) new (h .place) (h .within) (unknown-of n l (rowAt new (h .place)) (h .is ∙ ap (λ (x : ℕ). register (suc (suc x)) n l) e)))
         where
           unknown-reset : (s : Row) → kindOf s ≡ 2 → encodeRow s .reset ≡ suc (suc r) → ResetIn s → r ≡ 0
@@ -84,11 +84,11 @@ module _ (rows : List Row) (ok : AcceptedRows rows) (M : ℕ) (clock : ℕ → �
 
       -- What row y of the folded netlist follows.
       abbrev FollowsOriginal : ℕ → Row → Type 0
-      FollowsOriginal = Follows clock rows M (ok .formed) (steps .choices) (groups .choices) extended (groups .inputs) (covered (steps .choices) extended) choices-alike inputs-alike
+      FollowsOriginal = Follows clock rows M (well-formed rows ok) (steps .choices) (groups .choices) extended (groups .inputs) (covered (steps .choices) extended) choices-alike inputs-alike
 
       row-follows : (y : ℕ) → y < length new → (r : Row) → rowAt new y ≡ r → FollowsOriginal y r
       row-follows y h r e =
-          subst (FollowsOriginal y) e (follows clock rows M (ok .formed) (steps .choices) (groups .choices) extended (groups .inputs) (covered (steps .choices) extended) choices-alike inputs-alike y h)
+          subst (FollowsOriginal y) e (follows clock rows M (well-formed rows ok) (steps .choices) (groups .choices) extended (groups .inputs) (covered (steps .choices) extended) choices-alike inputs-alike y h)
 
       outputs-alike : (t l : ℕ) → t < T → HasOutput rows l 0 → HasOutput new l (t % N) → outputShows new groups l (t % N) (t / N) ≡ outputShows rows steps l 0 t
       outputs-alike t l h has has′ =
@@ -150,7 +150,7 @@ module _ (rows : List Row) (ok : AcceptedRows rows) (M : ℕ) (clock : ℕ → �
     }
 
 -- Each named row of the folded netlist stands for one of the original.
-module _ (rows : List Row) (ok : AcceptedRows rows) (M : ℕ) (clock : ℕ → ℕ → Ternary) where
+module _ (rows : List Row) (ok : FoldableRows rows) (M : ℕ) (clock : ℕ → ℕ → Ternary) where
   abbrev result : List Row
   result = folded clock rows M
 
@@ -190,13 +190,13 @@ module _ (rows : List Row) (ok : AcceptedRows rows) (M : ℕ) (clock : ℕ → �
 
 -- ---- of the fold
 
-pub fold-stands : (clock : ℕ → ℕ → Ternary) (rows : List Row) → AcceptedRows rows → (N : ℕ) → 0 < N → StandsFor rows N (foldWith clock rows N)
+pub fold-stands : (clock : ℕ → ℕ → Ternary) (rows : List Row) → FoldableRows rows → (N : ℕ) → 0 < N → StandsFor rows N (foldWith clock rows N)
 unfolding foldWith compact
 fold-stands clock rows ok zero h = absurd (omega arith)
 fold-stands clock rows ok (suc M) h = folded-stands rows ok M clock
 
 -- Demand 3 for N phases and the clocks that the lasso gives.
-pub fold-behaves : (rows : List Row) → AcceptedRows rows → (z : Lasso) → findLasso rows ≡ some z → (N : ℕ) → 0 < N → SameBehaviour rows N (foldWith (clockValue rows (periodsOf rows z) N) rows N)
+pub fold-behaves : (rows : List Row) → FoldableRows rows → (z : Lasso) → findLasso rows ≡ some z → (N : ℕ) → 0 < N → SameBehaviour rows N (foldWith (clockValue rows (periodsOf rows z) N) rows N)
 unfolding foldWith compact
 fold-behaves rows ok z q zero h = absurd (omega arith)
 fold-behaves rows ok z q (suc M) h = folded-behaves rows ok M (clockValue rows (periodsOf rows z) (suc M)) (λ c u t x. clock-covers rows z (lasso-is rows z q) (suc M) x t c u)

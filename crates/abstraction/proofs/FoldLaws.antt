@@ -11,7 +11,7 @@ use Rattle.memory.specs.Lists.{countIf}
 use Rattle.ternary.specs.Ternary.{Ternary}
 use Rattle.netlist.specs.Limits.{mostPhases, mostFoldedRows}
 use Rattle.netlist.specs.Rows.{Row, rowAt, labelOf, hasName, isRegister}
-use Rattle.netlist.specs.WellFormed.{AcceptedRows}
+use Rattle.netlist.specs.WellFormed.{FoldableRows}
 use Rattle.lasso.specs.LassoSearch.{Lasso, findLasso}
 use Rattle.lasso.specs.Generators.{periodsOf, phaseCount, clockValue}
 use Rattle.lasso.proofs.LassoLaws.{lasso-is}
@@ -26,7 +26,7 @@ use Rattle.abstraction.proofs.FoldedRun.{origin}
 use Rattle.abstraction.proofs.SizeBound.{fold-fits}
 use Rattle.abstraction.proofs.DemandThree.{fold-stands, fold-behaves}
 
-fold-shape : (clock : ℕ → ℕ → Ternary) (rows : List Row) → AcceptedRows rows → (N : ℕ) → 0 < N → ResultShape N (foldWith clock rows N)
+fold-shape : (clock : ℕ → ℕ → Ternary) (rows : List Row) → FoldableRows rows → (N : ℕ) → 0 < N → ResultShape N (foldWith clock rows N)
 unfolding foldWith compact
 fold-shape clock rows ok zero h = absurd (omega arith)
 fold-shape clock rows ok (suc M) h = result-shape rows ok clock M
@@ -65,7 +65,7 @@ module _ (rows : List Row) (wish : ℕ) (z : Lasso) (found : findLasso rows ≡ 
     clocks = entries-words rows z (lasso-is rows z found) (phaseCount wish (periodsOf rows z));
   }
 
-  module _ (ok : AcceptedRows rows) (small : wish ≤ mostPhases) where
+  module _ (ok : FoldableRows rows) (small : wish ≤ mostPhases) where
     pub answer-right : AnswerRight rows wish (foldFromLasso rows wish z)
     unfolding foldFromLasso
     answer-right =
@@ -78,7 +78,7 @@ module _ (rows : List Row) (wish : ℕ) (z : Lasso) (found : findLasso rows ≡ 
           words = answer-words;
           phases-pos = pos;
           phases-le = le;
-          rows-le = fold-fits clock rows N (ok .constant-first) (omega (arith, ok .has-output .4)) (ok .small) le;
+          rows-le = fold-fits clock rows N (ok .checked .constant-first) (omega (arith, ok .checked .has-output .4)) (ok .small) le;
           clocks-le = omega (arith, entries-count rows ps N (periods-length rows z), used-le rows z N);
           shape = fold-shape clock rows ok N pos;
           origins = fold-origins clock rows N pos;

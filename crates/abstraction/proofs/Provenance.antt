@@ -13,7 +13,7 @@ use Rattle.memory.proofs.TestLaws.{last-or}
 use Rattle.ternary.specs.Ternary.{Ternary}
 use Rattle.netlist.specs.Rows.{Row, constant, input, register, andGate, xorGate, muxGate, output, rowAt, kindOf, labelOf, phaseOf, hasName, isRegister, isOutput}
 use Rattle.netlist.proofs.RowLaws.{named-alike, each-append, each-one}
-use Rattle.netlist.specs.WellFormed.{SameName, EachRow, AcceptedRows}
+use Rattle.netlist.specs.WellFormed.{SameName, EachRow, FoldableRows}
 use Rattle.abstraction.specs.GateMaking.{Image}
 use Rattle.abstraction.specs.Unrolling.{phaseOutput, unrollPhases, phaseOutputs}
 use Rattle.abstraction.proofs.BuilderLaws.{ImageOver, Added, none, one}
@@ -82,7 +82,7 @@ module _ (rows : List Row) where
   -- The rows that are named are made before phase K of row n; and, if the original's names are unique, so are these.
   pub record Named (K n : ℕ) (xs : List Row) : Type 0 where
     pub sourced : EachRow (Sourced K n) xs
-    pub distinct : AcceptedRows rows → NamesDistinct xs
+    pub distinct : FoldableRows rows → NamesDistinct xs
 
   named-keep : (K n : ℕ) (xs : List Row) → Named K n xs → Named K (suc n) xs
   named-keep K n xs t = record { sourced = λ i h. next-row K n (rowAt xs i) (t .sourced i h); distinct = t .distinct }
@@ -99,12 +99,12 @@ module _ (rows : List Row) where
     distinct = λ ok. distinct-append xs (r ∷ []) (t .distinct ok) (λ i j l h. absurd (omega arith)) (cross ok);
   }
     where
-      cross : AcceptedRows rows → (i j : ℕ) → i < length xs → j < 1 → hasName (rowAt xs i) ≡ true → SameName (rowAt xs i) (rowAt (r ∷ []) j) → ⊥
+      cross : FoldableRows rows → (i j : ℕ) → i < length xs → j < 1 → hasName (rowAt xs i) ≡ true → SameName (rowAt xs i) (rowAt (r ∷ []) j) → ⊥
       cross ok i (suc j) h l q k = omega arith
       cross ok i zero h l q k =
           let o = t .sourced i h q in
-          let e : o .row ≡ n = ok .unique (o .row) n (o .within) b (named-alike (rowAt xs i) (rowAt rows (o .row)) (o .kind) q)
-          (record { kind = sym (o .kind) ∙ k .kind ∙ kind; label = sym (o .label) ∙ k .label ∙ label; phase = ok .formed .phases (o .row) (o .within) ∙ sym (ok .formed .phases n b) }) in
+          let e : o .row ≡ n = ok .checked .unique (o .row) n (o .within) b (named-alike (rowAt xs i) (rowAt rows (o .row)) (o .kind) q)
+          (record { kind = sym (o .kind) ∙ k .kind ∙ kind; label = sym (o .label) ∙ k .label ∙ label; phase = ok .unphased (o .row) (o .within) ∙ sym (ok .unphased n b) }) in
           let p : phaseOf (rowAt xs i) ≡ K = k .phase ∙ phase (named-alike (rowAt xs i) r (k .kind) q) in
           elim (o .earlier) [ in-phase-before h ↦ omega arith | in-row-before a h ↦ omega arith ]
 

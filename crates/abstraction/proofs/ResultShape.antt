@@ -13,7 +13,7 @@ use Rattle.memory.specs.Lists.{joinBelow}
 use Rattle.ternary.specs.Ternary.{Ternary}
 use Rattle.netlist.specs.Rows.{Row, constant, input, register, andGate, xorGate, muxGate, output, encodeRow, rowAt, kindOf, phaseOf, hasName, isOutput, onRegister, onOutput}
 use Rattle.netlist.proofs.RowLaws.{named-alike, unnamed}
-use Rattle.netlist.specs.WellFormed.{SameName, OperandsBelow, NextBelow, ResetIn, NamesNode, OnLiterals, AcceptedRows}
+use Rattle.netlist.specs.WellFormed.{SameName, OperandsBelow, NextBelow, ResetIn, NamesNode, OnLiterals, FoldableRows}
 use Rattle.abstraction.specs.Unrolling.{patchNext, phaseOutputs, unrolledNetlist}
 use Rattle.abstraction.specs.Compaction.{faninNodes, isConeRoot, isMarked, newIndex, renumberLiteral, Reached}
 use Rattle.abstraction.proofs.UnrollLaws.{unroll-formed, unroll-grows}
@@ -54,7 +54,7 @@ reset-alike (output _ _ _) s k e h = tt
 same-names : (r r′ s s′ : Row) → SameName r r′ → SameName s s′ → SameName r s → SameName r′ s′
 same-names r r′ s s′ a b e = record { kind = sym (a .kind) ∙ e .kind ∙ b .kind; label = sym (a .label) ∙ e .label ∙ b .label; phase = sym (a .phase) ∙ e .phase ∙ b .phase }
 
-module _ (rows : List Row) (ok : AcceptedRows rows) (clock : ℕ → ℕ → Ternary) (M : ℕ) where
+module _ (rows : List Row) (ok : FoldableRows rows) (clock : ℕ → ℕ → Ternary) (M : ℕ) where
   abbrev N : ℕ
   N = suc M
 
@@ -207,7 +207,7 @@ module _ (rows : List Row) (ok : AcceptedRows rows) (clock : ℕ → ℕ → Ter
       go (input _ _) e = tt
       go (register r n l) e =
           let o = origin clock rows M y h (ap hasName e) in
-          subst ResetIn e (reset-alike (rowAt new y) (rowAt rows (o .row)) (o .kind) (o .reset) (ok .resets (o .row) (o .within)))
+          subst ResetIn e (reset-alike (rowAt new y) (rowAt rows (o .row)) (o .kind) (o .reset) (ok .checked .resets (o .row) (o .within)))
       go (andGate _ _) e = tt
       go (xorGate _ _) e = tt
       go (muxGate _ _ _) e = tt
@@ -237,7 +237,7 @@ module _ (rows : List Row) (ok : AcceptedRows rows) (clock : ℕ → ℕ → Ter
 
   pub result-shape : ResultShape N new
   result-shape =
-      let x = ok .has-output in
+      let x = ok .checked .has-output in
       let o = output-kept clock rows M (x .0) (x .1) (x .2) (x .3) 0 (omega arith) (x .4) (x .5) in
       record {
         some-row = omega (arith, o .1 .within);

@@ -16,7 +16,7 @@ use Rattle.memory.proofs.ListLaws.{count-last}
 use Rattle.netlist.specs.Rows.{Row, constant, rowFromFields, rowAt, isInput, isRegister, isUnknown, isOutput}
 use Rattle.netlist.specs.FileFormat.{rowOffset, readFields, netlistOf}
 use Rattle.questions.specs.Questions.{Counts, countsOf}
-use Rattle.blockfile.specs.Ready.{Ready}
+use Rattle.blockfile.specs.Ready.{HasRows}
 use Rattle.blockfile.specs.CountCode.{withRow, EachAtMost}
 
 -- ---- the first i elements
@@ -61,7 +61,7 @@ sorts-by (suc (suc (suc (suc (suc (suc (suc k))))))) r a b c =
     record { input-if = sym (other 1 (omega arith)); register-if = sym (other 2 (omega arith)); unknown-if = rw (other 2 (omega arith)) refl; output-if = sym (other 6 (omega arith)) }
 
 -- Row i of a file that is ready.
-pub sort-at : (f : List ℕ) (n : ℕ) → Ready f n → (i : ℕ) → i < n → SortsBy (byteAt f (rowOffset i)) (byteAt f (rowOffset i + 1)) (rowAt (netlistOf f) i)
+pub sort-at : (f : List ℕ) (n : ℕ) → HasRows f n → (i : ℕ) → i < n → SortsBy (byteAt f (rowOffset i)) (byteAt f (rowOffset i + 1)) (rowAt (netlistOf f) i)
 sort-at f n R i h = let w = readFields f i in rw (R .row-is i h) (sorts-by (w .kind) (w .reset) (w .a) (w .b) (w .c))
 
 -- ---- counts
@@ -99,7 +99,7 @@ counts-next rows i kind reset h S =
     ) refl
 
 -- One row more, read at its place.
-pub counts-more : (f : List ℕ) (n : ℕ) → Ready f n → (i place : ℕ) (c d : Counts) → i < n → place ≡ rowOffset i → c ≡ countsOf (take i (netlistOf f)) → d ≡ withRow c (byteAt f place) (byteAt f (place + 1)) → d ≡ countsOf (take (i + 1) (netlistOf f))
+pub counts-more : (f : List ℕ) (n : ℕ) → HasRows f n → (i place : ℕ) (c d : Counts) → i < n → place ≡ rowOffset i → c ≡ countsOf (take i (netlistOf f)) → d ≡ withRow c (byteAt f place) (byteAt f (place + 1)) → d ≡ countsOf (take (i + 1) (netlistOf f))
 counts-more f n R i place c d h p e q =
     q ∙ rw (p, e) (counts-next (netlistOf f) i (byteAt f (rowOffset i)) (byteAt f (rowOffset i + 1)) (omega (arith, R .count)) (sort-at f n R i h))
 

@@ -5,7 +5,7 @@ ghost use Prim.Native.Nat.{_≤_};
 ghost use Rattle.netlist.specs.Limits.{mostRows};
 ghost use Rattle.netlist.specs.FileFormat.{netlistOf};
 ghost use Rattle.questions.specs.Questions.{countsOf};
-ghost use Rattle.blockfile.specs.Ready.{Ready};
+ghost use Rattle.blockfile.specs.Ready.{HasRows};
 ghost use Rattle.blockfile.specs.CountCode.{countsIn, withRow, EachAtMost};
 use crate::both;
 
@@ -56,7 +56,7 @@ fn with_row(c: Counts, kind: u8, reset: u8) -> Counts
 
 // The counts of an accepted file of this many rows.
 pub fn count_rows(file: &[u8], rows: usize) -> Counts
-    requires { ⌜ Ready (now file) rows ⌝ }
+    requires { ⌜ HasRows (now file) rows ⌝ }
     ensures { λ r. ⌜ countsIn r ≡ countsOf (netlistOf (now (file .entry))) ⌝ }
 {
     let mut counted = Counts {

@@ -22,6 +22,7 @@ use Rattle.netlist.specs.Limits.{mostPhases, foldWorkBytes, foldClockEntries}
 use Rattle.netlist.specs.Rows.{Row, rowAt, labelOf, isRegister, decodeRow, constant}
 use Rattle.netlist.specs.FileFormat.{readFields, netlistOf}
 use Rattle.netlist.proofs.FileLaws.{file-labels}
+use Rattle.netlist.specs.WellFormed.{FoldableRows}
 use Rattle.lasso.specs.Generators.{periodsOf, isUsed, usedCount, clockValue}
 use Rattle.lasso.specs.ClockEntries.{ClockEntry, clockWord, bitsSet, clockEntry, clockEntries}
 use Rattle.lasso.proofs.ClockLaws.{word-lt, entries-count}
@@ -29,8 +30,9 @@ use Rattle.lasso.proofs.GeneratorLaws.{periods-length}
 use Rattle.blockfile.specs.RowCode.{fieldsIn}
 use Rattle.blockfile.specs.declared.Fields.{Fields}
 use Rattle.blockfile.proofs.CountLaws.{count-next, count-place, count-some-le}
+use Rattle.blockfile.specs.Ready.{Ready}
 use Rattle.ternary_step.specs.WorkMap.{knownPlace, entryPlace, entryIn, entriesIn}
-use Rattle.ternary_step.specs.StateMap.{AnalysisReady, registersBefore, AtRow}
+use Rattle.ternary_step.specs.StateMap.{registersBefore, AtRow}
 use Rattle.ternary_step.proofs.StepLaws.{row-within, register-is, register-at}
 use Rattle.period_finder.specs.PeriodStage.{lassoIn}
 use Rattle.clock_words.specs.KnownStage.{periodAt, knownBytes, KnownPart}
@@ -109,7 +111,7 @@ pub entries-start : (rows : List Row) (w : List ℕ) → EntryPart rows w w 0 0
 unfolding entriesFrom
 entries-start rows w = record { entries = refl; few = omega arith; kept = kept-none (entryPlace 0) (entryPlace foldClockEntries) w }
 
-module _ {f : List ℕ} {n : ℕ} (R : AnalysisReady f n) {w w′ : List ℕ} {i e : ℕ} (within : i < n) (room : foldWorkBytes ≤ length w) (registers : KnownRegisters (netlistOf f) w) (E : EntryPart (netlistOf f) w w′ i e) where
+module _ {f : List ℕ} {n : ℕ} (R : Ready FoldableRows f n) {w w′ : List ℕ} {i e : ℕ} (within : i < n) (room : foldWorkBytes ≤ length w) (registers : KnownRegisters (netlistOf f) w) (E : EntryPart (netlistOf f) w w′ i e) where
   -- The known bytes stay.
   known-stay : (x : ℕ) → knownPlace 0 ≤ x → byteAt w′ x ≡ byteAt w x
   known-stay x h = E .kept .after x (omega arith)
@@ -149,7 +151,7 @@ module _ {f : List ℕ} {n : ℕ} (R : AnalysisReady f n) {w w′ : List ℕ} {i
         let h = E .few in
         let s = one-more in
         let b = count-some-le isRegister constant (netlistOf f) (i + 1) .1 in
-        let most = R .registers in
+        let most = R .rows .registers in
         let k = E .kept .long in
         let K : KeptOutside (entryPlace e) (entryPlace e + 8) w′ put = kept-sets (entryPlace e) (entryPlace e + 8) vs w′ (entryPlace e) (omega arith) (omega arith) in
         let old : entriesIn put e ≡ entriesIn w′ e = tabulate-cong e (entryIn put) (entryIn w′) (λ x b. entry-kept w′ put x (λ y c d. K .before y (omega arith))) in
@@ -195,7 +197,7 @@ module _ {f : List ℕ} {n : ℕ} {w : List ℕ} {i e : ℕ} (R : EntryReady f n
     put-asks =
         let h = R .few in
         let l = row-within entry-row in
-        (omega (arith, R .ready .registers, count-place isRegister constant (netlistOf f) i l (R .registers i l known)), R .room)
+        (omega (arith, R .ready .rows .registers, count-place isRegister constant (netlistOf f) i l (R .registers i l known)), R .room)
 
     -- A register's label is field b.
     pub entry-some : (r : Fields) → fieldsIn r ≡ readFields f i → (w′ : List ℕ) → w′ ≡ sets w (entryPlace e) (entryBytes (r .b) (byteAt w (knownPlace i)) (byteAt w (knownPlace i + 1)))

@@ -213,7 +213,7 @@ periods-kept {rows} {w} {w′} few K P =
 
 module _ {f : List ℕ} {m i j n : ℕ} (A : AtRow f m i j) {w : List ℕ} (P : KnownPart (netlistOf f) n w i) where
   pub known-more : (w′ : List ℕ) → w′ ≡ sets w (knownPlace i) (knownBytes (netlistOf f) n i) → KeptOutside (knownPlace 0) (knownPlace mostOriginalRows) w w′ × KnownPart (netlistOf f) n w′ (i + 1)
-  known-more w′ e = subst (λ (v : List ℕ). KeptOutside (knownPlace 0) (knownPlace mostOriginalRows) w v × KnownPart (netlistOf f) n v (i + 1)) (sym e) (K, record { part = periods-kept (A .ready .accepted .small) K (P .part); known = bytes })
+  known-more w′ e = subst (λ (v : List ℕ). KeptOutside (knownPlace 0) (knownPlace mostOriginalRows) w v × KnownPart (netlistOf f) n v (i + 1)) (sym e) (K, record { part = periods-kept (A .ready .rows .small) K (P .part); known = bytes })
     where
       vs : List ℕ
       vs = knownBytes (netlistOf f) n i

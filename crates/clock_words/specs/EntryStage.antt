@@ -15,9 +15,11 @@ use Rattle.memory.specs.Frames.{KeptOutside}
 use Rattle.netlist.specs.Limits.{foldWorkBytes, foldClockEntries}
 use Rattle.netlist.specs.Rows.{Row, rowAt, labelOf, isRegister}
 use Rattle.netlist.specs.FileFormat.{netlistOf}
+use Rattle.netlist.specs.WellFormed.{FoldableRows}
 use Rattle.lasso.specs.ClockEntries.{ClockEntry}
+use Rattle.blockfile.specs.Ready.{Ready}
 use Rattle.ternary_step.specs.WorkMap.{knownPlace, entryPlace, entriesIn}
-use Rattle.ternary_step.specs.StateMap.{AnalysisReady, registersBefore}
+use Rattle.ternary_step.specs.StateMap.{registersBefore}
 
 -- The eight bytes of an entry.
 abbrev pub entryBytes : ℕ → ℕ → ℕ → List ℕ
@@ -29,7 +31,7 @@ KnownRegisters rows w = (x : ℕ) → x < length rows → (byteAt w (knownPlace 
 
 -- What putting the entry of row i as entry e asks, and what it leaves.
 pub record EntryReady (f : List ℕ) (n : ℕ) (w : List ℕ) (i e : ℕ) : Type 0 where
-  pub ready : AnalysisReady f n
+  pub ready : Ready FoldableRows f n
   pub within : i < n
   pub room : foldWorkBytes ≤ length w
   pub few : e ≤ registersBefore (netlistOf f) i

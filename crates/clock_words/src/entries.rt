@@ -8,8 +8,9 @@ ghost use lib.Seq.{sets};
 ghost use Rattle.memory.specs.Fields.{byteAt};
 ghost use Rattle.netlist.specs.Limits.{foldWorkBytes, foldClockEntries};
 ghost use Rattle.netlist.specs.FileFormat.{netlistOf};
+ghost use Rattle.netlist.specs.WellFormed.{FoldableRows};
+ghost use Rattle.blockfile.specs.Ready.{Ready};
 ghost use Rattle.ternary_step.specs.WorkMap.{knownPlace, entryPlace};
-ghost use Rattle.ternary_step.specs.StateMap.{AnalysisReady};
 ghost use Rattle.clock_words.specs.EntryStage.{entryBytes, EntryReady, entryPut, KnownRegisters, EntryPart};
 use crate::known;
 
@@ -51,7 +52,7 @@ fn entry_row(file: &[u8], rows: usize, row: usize, work: &mut [u8], e: usize) ->
 
 // Puts one entry for each used generator, in row order; answers their number.
 pub fn put_entries(file: &[u8], rows: usize, work: &mut [u8]) -> usize
-    requires { ⌜ AnalysisReady (now file) rows ⌝ }
+    requires { ⌜ Ready FoldableRows (now file) rows ⌝ }
     requires { ⌜ (foldWorkBytes ≤ length (now work)) × KnownRegisters (netlistOf (now file)) (now work) ⌝ }
     ensures { λ r. ⌜ EntryPart (netlistOf (now (file .entry))) (now (work .entry)) (now (work .exit)) rows r ⌝ }
 {

@@ -7,9 +7,11 @@ ghost use lib.Seq.{sets};
 ghost use Rattle.memory.specs.Frames.{KeptOutside};
 ghost use Rattle.netlist.specs.Limits.{mostPhases, mostOriginalRows, foldWorkBytes};
 ghost use Rattle.netlist.specs.FileFormat.{netlistOf};
+ghost use Rattle.netlist.specs.WellFormed.{FoldableRows};
 ghost use Rattle.lasso.specs.ClockEntries.{clockWord};
+ghost use Rattle.blockfile.specs.Ready.{Ready};
 ghost use Rattle.ternary_step.specs.WorkMap.{knownPlace};
-ghost use Rattle.ternary_step.specs.StateMap.{AnalysisReady, registersBefore, AtRow};
+ghost use Rattle.ternary_step.specs.StateMap.{registersBefore, AtRow};
 ghost use Rattle.period_finder.specs.PeriodStage.{PeriodPart};
 ghost use Rattle.clock_words.specs.KnownStage.{WordReady, phaseValue, KnownPart};
 use ternary_step::HISTORY;
@@ -81,7 +83,7 @@ fn known_row(
 
 // Puts what is known of every row.
 pub fn find_known(file: &[u8], rows: usize, work: &mut [u8], phases: usize)
-    requires { ⌜ AnalysisReady (now file) rows ⌝ }
+    requires { ⌜ Ready FoldableRows (now file) rows ⌝ }
     requires { ⌜ (1 ≤ phases) × ((phases ≤ mostPhases) × PeriodPart (netlistOf (now file)) (now work) rows) ⌝ }
     ensures { λ _. ⌜ KeptOutside (knownPlace 0) (knownPlace mostOriginalRows) (now (work .entry)) (now (work .exit)) × KnownPart (netlistOf (now (file .entry))) phases (now (work .exit)) rows ⌝ }
 {

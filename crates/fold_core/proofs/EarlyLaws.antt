@@ -23,7 +23,7 @@ use Rattle.blockfile.specs.declared.Fields.{Fields}
 use Rattle.blockfile.specs.declared.count.Counts as code
 use Rattle.blockfile.specs.RowCode.{fieldsIn}
 use Rattle.blockfile.specs.CountCode.{countsIn}
-use Rattle.blockfile.specs.Ready.{Ready}
+use Rattle.blockfile.specs.Ready.{HasRows}
 use Rattle.accept.specs.declared.FileRefusal.{FileRefusal}
 use Rattle.accept.specs.declared.Acceptance.{Acceptance}
 use Rattle.accept.specs.declared.Acceptance.the-variants.{Accepted, Refused}
@@ -105,7 +105,7 @@ module _ (rows : List Row) where
     phases-none l = ap (λ (i : ℕ). answerAt i .number) (sym first) ∙ ap (λ (t : Bool). (cond t (record { number = phaseQuestion rows r; place = r }) noRefusal) .number) (le-ltb r (length rows) l)
 
 -- The phase p that is read is row i's, where the rows before have phase 0.
-module _ (file : List ℕ) (n : ℕ) (R : Ready file n) (i : ℕ) (more : i < n) (p : ℕ) (read : p ≡ phaseOf (decodeRow (readFields file i))) (before : NoPhase (netlistOf file) i) where
+module _ (file : List ℕ) (n : ℕ) (R : HasRows file n) (i : ℕ) (more : i < n) (p : ℕ) (read : p ≡ phaseOf (decodeRow (readFields file i))) (before : NoPhase (netlistOf file) i) where
   phase-read : phaseOf (rowAt (netlistOf file) i) ≡ p
   phase-read = ap phaseOf (R .row-is i more) ∙ sym read
 

@@ -11,6 +11,7 @@ use Rattle.memory.proofs.ListLaws.{tabulate-cong}
 use Rattle.netlist.specs.Limits.{mostPhases, mostFoldedRows, foldClockEntries}
 use Rattle.netlist.specs.Rows.{Row}
 use Rattle.netlist.specs.FileFormat.{netlistOf}
+use Rattle.netlist.specs.WellFormed.{FoldableRows}
 use Rattle.lasso.specs.LassoSearch.{Lasso, findLasso}
 use Rattle.lasso.specs.Generators.{periodsOf, usedCount, clockValue}
 use Rattle.lasso.proofs.LassoLaws.{lasso-is}
@@ -25,7 +26,6 @@ use Rattle.fold_questions.specs.FoldRefusalWords.{MemoryRight}
 use Rattle.fold_questions.proofs.FoldAccepted.{foldMemoryRight-iff, OriginalRight, original-right}
 use Rattle.questions.proofs.AcceptedFiles.{FileRight, file-right}
 use Rattle.blockfile.specs.Ready.{Ready}
-use Rattle.ternary_step.specs.StateMap.{AnalysisReady}
 use Rattle.ternary_step.specs.WorkMap.{entryIn, entriesIn}
 use Rattle.lasso_finder.specs.Outcome.{phasesOf, analysedClocks, analysisOf, Analysed}
 use Rattle.lasso_finder.specs.declared.Analysis.{Analysis}
@@ -33,7 +33,7 @@ use Rattle.lasso_finder.specs.declared.Analysis.the-variants as analysis
 use Rattle.lasso_finder.specs.declared.Clocks.{Clocks}
 use Rattle.ternary_step.proofs.ReadyLaws.{analysis-ready}
 use Rattle.clock_words.proofs.EntryLaws.{entry-kept}
-use Rattle.unrolling.specs.UnrollMap.{Original, Room}
+use Rattle.unrolling.specs.UnrollMap.{Room}
 use Rattle.fold_core.specs.FoldAnswers.{numbersOf, entriesOf, resultOf}
 use Rattle.fold_core.specs.FoldParts.{earlyRefusal, FoldReady, foldingOf, FoldMade}
 use Rattle.fold_core.specs.FoldStages.{EntriesKept, FoldWritten, NumbersFit, numbersFrom}
@@ -88,7 +88,7 @@ module _ {file : List ℕ} {n wish : ℕ} {result work : List ℕ} (R : FoldRead
   original : OriginalRight rows
   original = early-original file wish (length result) (length work) (R .clocks) (R .passed)
 
-  pub file-ready : AnalysisReady file n
+  pub file-ready : Ready FoldableRows file n
   file-ready = analysis-ready file (early-file file wish (length result) (length work) (R .clocks) (R .passed)) n (R .rows) original
 
   pub wish-small : wish ≤ mostPhases
@@ -127,8 +127,8 @@ module _ {file : List ℕ} {n wish : ℕ} {result work : List ℕ} (R : FoldRead
       used-few = omega (arith, used-is, used-le rows z N, original .registers)
 
       -- What `write_fold` asks.
-      pub original-ready : Original file
-      original-ready = record { file = subst (Ready file) (R .rows) (file-ready .file); accepted = file-ready .accepted }
+      pub original-ready : Ready FoldableRows file (length (netlistOf file))
+      original-ready = subst (Ready FoldableRows file) (R .rows) file-ready
 
       pub phases-from : 1 ≤ clocks .phases
       phases-from = omega (arith, phases-is, phases-pos wish ps)

@@ -12,26 +12,28 @@ use Rattle.netlist.specs.Limits.{mostRows, mostPhases, mostFoldedRows, foldResu
 use Rattle.netlist.specs.Rows.{Row}
 use Rattle.netlist.specs.FileFormat.{netlistOf, fileOf, blocksFor}
 use Rattle.netlist.proofs.FileLaws.{file-length, file-labels}
+use Rattle.netlist.specs.WellFormed.{FoldableRows}
 use Rattle.abstraction.specs.Unrolling.{unrolledNetlist}
 use Rattle.abstraction.specs.Compaction.{compact}
 use Rattle.abstraction.specs.Fold.{foldWith}
 use Rattle.abstraction.proofs.SizeBound.{fold-fits}
 use Rattle.blockfile.specs.RowsStand.{RowsStand}
+use Rattle.blockfile.specs.Ready.{Ready}
 use Rattle.compaction.specs.Compactable.{Compactable}
 use Rattle.compaction.specs.Slots.{slotsStart, slotsEnd}
 use Rattle.ternary_step.specs.WorkMap.{knownIn}
-use Rattle.unrolling.specs.UnrollMap.{Original, imagesEnd}
+use Rattle.unrolling.specs.UnrollMap.{imagesEnd}
 use Rattle.unrolling.proofs.UnrollFacts.{netlist-few}
 use Rattle.fold_core.specs.FoldStages.{KnownAs, FoldWritten}
 use Rattle.fold_core.proofs.UnrolledFits.{unrolled-compactable}
 
 -- ---- the rows unrolled, compacted and written
 
-module _ {file : List ℕ} (O : Original file) {n : ℕ} (count : n ≡ length (netlistOf file)) {N : ℕ} (some : 1 ≤ N) (few : N ≤ mostPhases) (work result₁ : List ℕ) {made : ℕ}
+module _ {file : List ℕ} (O : Ready FoldableRows file (length (netlistOf file))) {n : ℕ} (count : n ≡ length (netlistOf file)) {N : ℕ} (some : 1 ≤ N) (few : N ≤ mostPhases) (work result₁ : List ℕ) {made : ℕ}
     (unrolled : (clock : ℕ → ℕ → Ternary) → KnownAs clock n N work → (made ≡ length (unrolledNetlist clock (netlistOf file) N)) × RowsStand (unrolledNetlist clock (netlistOf file) N) result₁)
   where
     pub made-few : made ≤ mostFoldedRows
-    made-few = omega (arith, unrolled (knownIn work) (λ i k _ _. refl) .0, netlist-few (knownIn work) (netlistOf file) (O .accepted) N few)
+    made-few = omega (arith, unrolled (knownIn work) (λ i k _ _. refl) .0, netlist-few (knownIn work) (netlistOf file) (O .rows) N few)
 
     module _ (bytes : IsBytes file) (result₂ : List ℕ) {kept : ℕ}
         (compacted : (rs : List Row) → length rs ≡ made → RowsStand rs result₁ → Compactable rs → (kept ≡ length (compact rs)) × RowsStand (compact rs) result₂)
@@ -40,12 +42,12 @@ module _ {file : List ℕ} (O : Original file) {n : ℕ} (count : n ≡ length (
         unfolding foldWith
         fold-stands clock known =
             let u = unrolled clock (λ i k h. known i k (omega arith)) in
-            compacted (unrolledNetlist clock (netlistOf file) N) (sym (u .0)) (u .1) (unrolled-compactable clock (netlistOf file) (file-labels file bytes) N few (O .accepted) some)
+            compacted (unrolledNetlist clock (netlistOf file) N) (sym (u .0)) (u .1) (unrolled-compactable clock (netlistOf file) (file-labels file bytes) N few (O .rows) some)
 
         kept-few : kept ≤ mostFoldedRows
         kept-few =
-            let ok = O .accepted in
-            omega (arith, fold-stands (knownIn work) (λ i k _ _. refl) .0, fold-fits (knownIn work) (netlistOf file) N (ok .constant-first) (omega (arith, ok .has-output .4)) (ok .small) few)
+            let ok = O .rows in
+            omega (arith, fold-stands (knownIn work) (λ i k _ _. refl) .0, fold-fits (knownIn work) (netlistOf file) N (ok .checked .constant-first) (omega (arith, ok .checked .has-output .4)) (ok .small) few)
 
         pub file-fits : foldResultBytes ≤ length result₂ → (kept ≤ mostRows) × (512 * blocksFor kept ≤ length result₂)
         file-fits room = let k = kept-few in (omega arith, omega arith)

@@ -11,7 +11,7 @@ use Rattle.ternary.specs.Ternary.{Ternary}
 use Rattle.netlist.specs.Limits.{mostRows, mostPhases}
 use Rattle.netlist.specs.Rows.{Row, constant, rowAt, labelOf, phaseOf, hasName}
 use Rattle.netlist.proofs.RowLaws.{each-append, unnamed}
-use Rattle.netlist.specs.WellFormed.{EachRow, AcceptedRows}
+use Rattle.netlist.specs.WellFormed.{EachRow, FoldableRows}
 use Rattle.netlist.proofs.FileLaws.{row-fits}
 use Rattle.abstraction.specs.Unrolling.{patchNext, unrollPhases, phaseOutputs, unrolledNetlist}
 use Rattle.abstraction.proofs.UnrolledRun.{length-whole}
@@ -46,7 +46,7 @@ module _ (clock : ℕ → ℕ → Ternary) (rows : List Row) (labels : EachRow (
 
 module _ (clock : ℕ → ℕ → Ternary) (rows : List Row) (labels : EachRow (λ r. labelOf r < 2 ^ 16) rows) where
   -- Of one phase or more.
-  whole-compactable : (M : ℕ) → suc M ≤ mostPhases → AcceptedRows rows → Compactable (whole clock rows M)
+  whole-compactable : (M : ℕ) → suc M ≤ mostPhases → FoldableRows rows → Compactable (whole clock rows M)
   whole-compactable M few ok =
       let n : length (whole clock rows M) ≤ mostRows = omega (arith, netlist-few clock rows ok (suc M) few) in
       let m : length (made clock rows M) ≤ length (whole clock rows M) = length-whole clock rows (suc M) in
@@ -57,7 +57,7 @@ module _ (clock : ℕ → ℕ → Ternary) (rows : List Row) (labels : EachRow (
         inside = whole-fanin clock rows M;
       }
 
-  pub unrolled-compactable : (N : ℕ) → N ≤ mostPhases → AcceptedRows rows → 1 ≤ N → Compactable (unrolledNetlist clock rows N)
+  pub unrolled-compactable : (N : ℕ) → N ≤ mostPhases → FoldableRows rows → 1 ≤ N → Compactable (unrolledNetlist clock rows N)
   unrolled-compactable N few ok some =
       let e : suc (N - 1) ≡ N = omega arith in
       subst (λ (n : ℕ). Compactable (unrolledNetlist clock rows n)) e (whole-compactable (N - 1) (omega arith) ok)

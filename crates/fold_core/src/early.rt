@@ -8,7 +8,7 @@ ghost use Rattle.netlist.specs.Limits.{mostRows};
 ghost use Rattle.netlist.specs.Rows.{decodeRow, phaseOf};
 ghost use Rattle.netlist.specs.FileFormat.{rowOffset, readFields, netlistOf};
 ghost use Rattle.fold_questions.specs.FoldQuestions.{originalRefusal, argumentQuestions};
-ghost use Rattle.blockfile.specs.Ready.{Ready};
+ghost use Rattle.blockfile.specs.Ready.{HasRows};
 ghost use Rattle.fold_core.specs.EarlyAnswers.{hasPhase, AnswersTo};
 ghost use Rattle.fold_core.specs.FoldParts.{Questioned};
 use crate::FoldRefusal;
@@ -49,7 +49,7 @@ fn row_phase(file: &[u8], row: usize) -> usize
 
 // 13: the first row whose phase is not 0, or the row count.
 fn first_phase(file: &[u8], rows: usize) -> usize
-    requires { ⌜ Ready (now file) rows ⌝ }
+    requires { ⌜ HasRows (now file) rows ⌝ }
     ensures { λ r. ⌜ r ≡ firstFrom 0 rows (hasPhase (netlistOf (now (file .entry)))) ⌝ }
 {
     let mut row = 0;
@@ -91,7 +91,7 @@ fn ask_original(
     work: usize,
     clocks: usize,
 ) -> Asked
-    requires { ⌜ Ready (now file) rows ⌝ }
+    requires { ⌜ HasRows (now file) rows ⌝ }
     ensures { λ r. ⌜ AnswersTo (originalRefusal (netlistOf (now (file .entry))) ∷ argumentQuestions wish result work clocks) rows r ⌝ }
 {
     if MOST_ROWS < rows {

@@ -4,7 +4,9 @@ ghost use mathlib.Core.Path.{_≡_};
 ghost use lib.ListN.{length};
 ghost use Rattle.netlist.specs.Limits.{mostPhases};
 ghost use Rattle.netlist.specs.FileFormat.{netlistOf};
-ghost use Rattle.unrolling.specs.UnrollMap.{Original, Room};
+ghost use Rattle.netlist.specs.WellFormed.{FoldableRows};
+ghost use Rattle.blockfile.specs.Ready.{Ready};
+ghost use Rattle.unrolling.specs.UnrollMap.{Room};
 ghost use Rattle.fold_core.specs.FoldParts.{FoldReady, FoldMade};
 ghost use Rattle.fold_core.specs.FoldStages.{FoldWritten, NumbersFit, numbersFrom};
 use crate::FoldNumbers;
@@ -15,7 +17,7 @@ use lasso_finder::Clocks;
 
 // The folded netlist's file in `result`; answers its row count.
 fn write_fold(file: &[u8], rows: usize, phases: usize, result: &mut [u8], work: &mut [u8]) -> usize
-    requires { ⌜ Original (now file) × (rows ≡ length (netlistOf (now file))) × (1 ≤ phases) × (phases ≤ mostPhases) ⌝ }
+    requires { ⌜ Ready FoldableRows (now file) (length (netlistOf (now file))) × (rows ≡ length (netlistOf (now file))) × (1 ≤ phases) × (phases ≤ mostPhases) ⌝ }
     requires { ⌜ Room (now result) (now work) ⌝ }
     ensures { λ r. ⌜ FoldWritten (netlistOf (now (file .entry))) phases (now (result .entry)) (now (result .exit)) (now (work .entry)) (now (work .exit)) r ⌝ }
 {

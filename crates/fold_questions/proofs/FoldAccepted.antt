@@ -15,7 +15,7 @@ use Rattle.memory.proofs.TestLaws.{leb-iff, eqb-iff, and-iff}
 use Rattle.netlist.specs.Limits.{mostPhases, mostOriginalRows, mostOriginalRegisters, foldResultBytes, foldWorkBytes, foldClockEntries}
 use Rattle.netlist.specs.Rows.{Row, rowAt, phaseOf, isRegister}
 use Rattle.netlist.specs.FileFormat.{netlistOf}
-use Rattle.netlist.specs.WellFormed.{CheckedRows, AcceptedRows}
+use Rattle.netlist.specs.WellFormed.{CheckedRows, FoldableRows}
 use Rattle.lasso.specs.LassoSearch.{Lasso, findLasso}
 use Rattle.lasso.proofs.LassoLaws.{lasso-is, lasso-found}
 use Rattle.questions.specs.Questions.{Refusal, noRefusal, question, itemQuestions, namesEarlier, fileRefusal}
@@ -83,15 +83,8 @@ module _ (rows : List Row) where
       then number-none _ (items-yes (length rows) (phaseQuestion rows) (λ i l. phaseQuestion-iff rows i .1 (O .phases i l)))
       then tt)
 
-pub rows-accepted : (rows : List Row) → CheckedRows rows → OriginalRight rows → AcceptedRows rows
-rows-accepted rows C O = record {
-  formed = record { ordered = C .ordered; nexts = C .nexts; phases = O .phases };
-  small = O .small;
-  constant-first = C .constant-first;
-  resets = C .resets;
-  has-output = C .has-output;
-  unique = C .unique;
-}
+pub rows-foldable : (rows : List Row) → CheckedRows rows → OriginalRight rows → FoldableRows rows
+rows-foldable rows C O = record { checked = C; small = O .small; registers = O .registers; unphased = O .phases }
 
 -- What Fold was given, where it refuses nothing.
 pub record FoldRight (file : List ℕ) (wish result work clocks : ℕ) : Type 0 where

@@ -16,7 +16,7 @@ use Rattle.abstraction.proofs.FoldLaws.{AnswerRight, fold-answers, answer-right
 use Rattle.questions.specs.Questions.{noRefusal}
 use Rattle.fold_questions.specs.FoldQuestions.{foldRefusal}
 use Rattle.questions.proofs.AcceptedFiles.{file-checked}
-use Rattle.fold_questions.proofs.FoldAccepted.{fold-right, rows-accepted}
+use Rattle.fold_questions.proofs.FoldAccepted.{fold-right, rows-foldable}
 use Rattle.questions.specs.RoundTrips.{Writable}
 use Rattle.guarantees.specs.FoldGuarantee.{FoldGuarantee}
 use Rattle.questions.proofs.WriteThenRead.{writable-read, writable-accepted, writable-bytes}
@@ -38,7 +38,7 @@ pub fold-guarantee : (file : List ℕ) → IsBytes file → (wish result work cl
 fold-guarantee file bytes wish result work clocks h =
     let F = fold-right file wish result work clocks (rw h) in
     let rows = netlistOf file in
-    let ok = rows-accepted rows (file-checked file (F .file-right)) (F .original) in
+    let ok = rows-foldable rows (file-checked file (F .file-right)) (F .original) in
     let answer = foldFromLasso rows wish (F .lasso) in
     let right = answer-right rows wish (F .lasso) (F .found) ok (F .wish-small) in
     let w = answer-writable rows wish answer right (file-labels file bytes) in

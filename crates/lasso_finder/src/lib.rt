@@ -2,7 +2,9 @@
 ghost use Prim.Native.Nat.{_≤_};
 ghost use Rattle.netlist.specs.Limits.{mostPhases};
 ghost use Rattle.netlist.specs.FileFormat.{netlistOf};
-ghost use Rattle.ternary_step.specs.StateMap.{AnalysisReady, ClearedWork};
+ghost use Rattle.netlist.specs.WellFormed.{FoldableRows};
+ghost use Rattle.blockfile.specs.Ready.{Ready};
+ghost use Rattle.ternary_step.specs.StateMap.{ClearedWork};
 ghost use Rattle.lasso_finder.specs.Outcome.{Analysed};
 
 // The lasso's stem and cycle, the phase count, and the number of used generators.
@@ -20,7 +22,7 @@ pub enum Analysis {
 
 // Then `work` has what is known of each row in each phase, and the clock entries.
 pub fn analyse(file: &[u8], rows: usize, wish: usize, work: &mut [u8]) -> Analysis
-    requires { ⌜ AnalysisReady (now file) rows ⌝ }
+    requires { ⌜ Ready FoldableRows (now file) rows ⌝ }
     requires { ⌜ (wish ≤ mostPhases) × ClearedWork (now work) ⌝ }
     ensures { λ r. ⌜ Analysed (netlistOf (now (file .entry))) wish (now (work .entry)) (now (work .exit)) r ⌝ }
 {

@@ -18,9 +18,11 @@ use Rattle.memory.proofs.FrameLaws.{kept-none, kept-join}
 use Rattle.netlist.specs.Limits.{mostOriginalRegisters, lastState}
 use Rattle.netlist.specs.Rows.{Row, isRegister}
 use Rattle.netlist.specs.FileFormat.{netlistOf}
+use Rattle.netlist.specs.WellFormed.{FoldableRows}
 use Rattle.lasso.specs.LassoSearch.{isRepeat, earlierEqual, firstRepeat, Lasso, findLasso}
+use Rattle.blockfile.specs.Ready.{Ready}
 use Rattle.ternary_step.specs.WorkMap.{knownPlace}
-use Rattle.ternary_step.specs.StateMap.{AnalysisReady, statePlace, nextPlace, Stored, Started, Searched}
+use Rattle.ternary_step.specs.StateMap.{statePlace, nextPlace, Stored, Started, Searched}
 use Rattle.ternary_step.proofs.StepLaws.{StartKept, place-within}
 use Rattle.lasso_search.specs.SearchStage.{sameWord, repeatOf, LassoDone}
 use Rattle.lasso_search.specs.declared.Repeat.the-variants.{Found, Never}
@@ -121,10 +123,10 @@ module _ {rows : List Row} {n : ℕ} {w w₁ : List ℕ} (count : n ≡ length r
 
 -- ---- the comparison of states k and m
 
-module _ {f : List ℕ} {n : ℕ} (R : AnalysisReady f n) {w : List ℕ} {m k words registers old new : ℕ} (small : m ≤ lastState) (less : k < m) (D : Searched (netlistOf f) w (m + 1)) (count : registers ≡ countIf isRegister (netlistOf f)) (size : words ≡ (registers + 31) / 32) (at-old : old ≡ statePlace k) (at-new : new ≡ statePlace m) where
+module _ {f : List ℕ} {n : ℕ} (R : Ready FoldableRows f n) {w : List ℕ} {m k words registers old new : ℕ} (small : m ≤ lastState) (less : k < m) (D : Searched (netlistOf f) w (m + 1)) (count : registers ≡ countIf isRegister (netlistOf f)) (size : words ≡ (registers + 31) / 32) (at-old : old ≡ statePlace k) (at-new : new ≡ statePlace m) where
   pub same-asks : (old + 8 * words ≤ length w) × (new + 8 * words ≤ length w)
   same-asks =
-      let few = R .registers in
+      let few = R .rows .registers in
       let room = D .coded .room in
       let a = place-within k (omega arith) in
       let b = place-within m small in
@@ -133,4 +135,4 @@ module _ {f : List ℕ} {n : ℕ} (R : AnalysisReady f n) {w : List ℕ} {m k wo
   pub repeat-is : IsBytes w → (r : Bool) → r ≡ allBelow words (sameWord w old new) → r ≡ isRepeat (netlistOf f) m k
   repeat-is bytes r e =
       e ∙ rw (at-old, at-new)
-      (same-states (netlistOf f) w bytes (R .registers) k m words (D .stored k (omega arith)) (D .stored m (omega arith)) (size ∙ ap (λ (x : ℕ). (x + 31) / 32) count))
+      (same-states (netlistOf f) w bytes (R .rows .registers) k m words (D .stored k (omega arith)) (D .stored m (omega arith)) (size ∙ ap (λ (x : ℕ). (x + 31) / 32) count))

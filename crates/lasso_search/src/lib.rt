@@ -4,7 +4,9 @@ ghost use Prim.Native.Nat.{_+_, _*_, _≤_};
 ghost use lib.ListN.{length};
 ghost use Rattle.memory.specs.Lists.{allBelow};
 ghost use Rattle.netlist.specs.FileFormat.{netlistOf};
-ghost use Rattle.ternary_step.specs.StateMap.{AnalysisReady, ClearedWork};
+ghost use Rattle.netlist.specs.WellFormed.{FoldableRows};
+ghost use Rattle.blockfile.specs.Ready.{Ready};
+ghost use Rattle.ternary_step.specs.StateMap.{ClearedWork};
 ghost use Rattle.lasso_search.specs.SearchStage.{wordAt, sameWord, LassoDone};
 
 const LAST_STATE: usize = 256;
@@ -45,7 +47,7 @@ pub enum Repeat {
 
 // Compares each new state with the earlier ones from state 0 up, until one is equal.
 pub fn find_lasso(file: &[u8], rows: usize, work: &mut [u8]) -> Repeat
-    requires { ⌜ AnalysisReady (now file) rows ⌝ }
+    requires { ⌜ Ready FoldableRows (now file) rows ⌝ }
     requires { ⌜ ClearedWork (now work) ⌝ }
     ensures { λ r. ⌜ LassoDone (netlistOf (now (file .entry))) (now (work .entry)) (now (work .exit)) r ⌝ }
 {

@@ -14,7 +14,7 @@ use Rattle.memory.proofs.TestLaws.{and-true, last-or}
 use Rattle.memory.specs.Lists.{joinBelow}
 use Rattle.memory.proofs.ListLaws.{first-is, first-least}
 use Rattle.netlist.specs.Rows.{Row, constant, input, register, andGate, xorGate, muxGate, output, encodeRow, decodeRow, rowAt, kindOf, nameOf, labelOf, phaseOf, hasName, isNamed, isOutput, isUnknown, firstRow, HasRow, rowFromFields}
-use Rattle.netlist.specs.WellFormed.{EachRow, NextBelow}
+use Rattle.netlist.specs.WellFormed.{EachRow, NextBelow, WellFormed, FoldableRows}
 
 -- ---- fields
 
@@ -184,3 +184,8 @@ next-wider m n h (andGate _ _) b = tt
 next-wider m n h (xorGate _ _) b = tt
 next-wider m n h (muxGate _ _ _) b = tt
 next-wider m n h (output _ _ _) b = tt
+
+-- ---- what an accepted netlist is
+
+pub well-formed : (rows : List Row) → FoldableRows rows → WellFormed rows
+well-formed rows F = record { ordered = F .checked .operands; nexts = F .checked .nexts; phases = F .unphased }

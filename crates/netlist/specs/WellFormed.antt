@@ -1,13 +1,14 @@
 -- What an accepted netlist is, as propositions: literals that name rows in range, phases, resets, names that are unique.
--- Interface: CheckedRows (questions 6 to 10), AcceptedRows (6 to 13), and the words that they are made of.
+-- Interface: CheckedRows (questions 6 to 10), FoldableRows (6 to 13), and the words that they are made of.
 -- Assumes nothing.
 use Prim.Native.Nat.{ℕ, _<_, _≤_, _/_, _^_}
 use mathlib.Core.Path.{_≡_}
 use mathlib.Core.Bool.{true, false}
 use mathlib.Core.List.{List, [], _∷_}
 use lib.ListN.{length}
-use Rattle.netlist.specs.Limits.{mostPhases, mostOriginalRows}
-use Rattle.netlist.specs.Rows.{Row, constant, input, register, andGate, xorGate, muxGate, output, RowFields, rowAt, kindOf, labelOf, phaseOf, onRegister, hasName, isOutput}
+use Rattle.memory.specs.Lists.{countIf}
+use Rattle.netlist.specs.Limits.{mostPhases, mostOriginalRows, mostOriginalRegisters}
+use Rattle.netlist.specs.Rows.{Row, constant, input, register, andGate, xorGate, muxGate, output, RowFields, rowAt, kindOf, labelOf, phaseOf, onRegister, hasName, isRegister, isOutput}
 
 -- P holds of each row of the list.
 abbrev pub EachRow : (Row → Type 0) → List Row → Type 0
@@ -69,9 +70,9 @@ pub record SameName (r s : Row) : Type 0 where
 abbrev pub NamesUnique : List Row → Type 0
 NamesUnique rows = (x y : ℕ) → x < length rows → y < length rows → hasName (rowAt rows x) ≡ true → SameName (rowAt rows x) (rowAt rows y) → x ≡ y
 
--- The netlist of a file that Check accepts.
-pub record CheckedRows (rows : List Row) : Type 0 where
-  pub ordered : Ordered rows
+-- What questions 6 to 10 say of the rows, where `Operands` says what the operands of gates may name.
+pub record CheckedBy (Operands : List Row → Type 0) (rows : List Row) : Type 0 where
+  pub operands : Operands rows
   pub nexts : (x : ℕ) → x < length rows → NextBelow (length rows) (rowAt rows x)
   pub resets : (x : ℕ) → x < length rows → ResetIn (rowAt rows x)
   pub phases : (x : ℕ) → x < length rows → phaseOf (rowAt rows x) < mostPhases
@@ -80,6 +81,10 @@ pub record CheckedRows (rows : List Row) : Type 0 where
   pub has-output : (x a l p : ℕ) × (x < length rows) × (rowAt rows x ≡ output a l p)
   pub unique : NamesUnique rows
 
+-- The netlist of a file that Check accepts: gates name earlier rows.
+abbrev pub CheckedRows : List Row → Type 0
+CheckedRows = CheckedBy Ordered
+
 -- A netlist that Fold accepts, as far as its values go.
 pub record WellFormed (rows : List Row) : Type 0 where
   pub ordered : Ordered rows
@@ -87,10 +92,8 @@ pub record WellFormed (rows : List Row) : Type 0 where
   pub phases : (x : ℕ) → x < length rows → phaseOf (rowAt rows x) ≡ 0
 
 -- What questions 6 to 13 say of the rows.
-pub record AcceptedRows (rows : List Row) : Type 0 where
-  pub formed : WellFormed rows
+pub record FoldableRows (rows : List Row) : Type 0 where
+  pub checked : CheckedRows rows
   pub small : length rows ≤ mostOriginalRows
-  pub constant-first : rowAt rows 0 ≡ constant
-  pub resets : (x : ℕ) → x < length rows → ResetIn (rowAt rows x)
-  pub has-output : (x a l p : ℕ) × (x < length rows) × (rowAt rows x ≡ output a l p)
-  pub unique : NamesUnique rows
+  pub registers : countIf isRegister rows ≤ mostOriginalRegisters
+  pub unphased : (x : ℕ) → x < length rows → phaseOf (rowAt rows x) ≡ 0

@@ -140,7 +140,7 @@ module _ {f : List ℕ} {n i j : ℕ} (A : AtRow f n i j) (r : Fields) (read : f
       let K : ValuesKept w (set w (valuePlace i) x) = kept-set (valuePlace 0) (valuePlace mostOriginalRows) (valuePlace i) x w (omega arith) (omega arith) in
       let short = lasso-short (P .lassoed) .0 in
       let here : byteAt (set w (valuePlace i) x) (valuePlace i) ≡ smallPeriod (periodOf (netlistOf f) (lassoIn (netlistOf f)) i) =
-      getD-set-same w (valuePlace i) x 0 (omega arith) ∙ period-byte (P .lassoed) (A .ready .registers) (row-within A) (A .number) x b (register-is A r read ∙ e) (q ∙ rw (to, round) refl) in (
+      getD-set-same w (valuePlace i) x 0 (omega arith) ∙ period-byte (P .lassoed) (A .ready .rows .registers) (row-within A) (A .number) x b (register-is A r read ∙ e) (q ∙ rw (to, round) refl) in (
         K,
         record {
           lassoed = record {

@@ -7,8 +7,10 @@ ghost use lib.ListN.{length};
 ghost use Rattle.memory.specs.Frames.{KeptOutside};
 ghost use Rattle.netlist.specs.Limits.{mostPhases, mostOriginalRows, mostOriginalRegisters, foldWorkBytes, lastState};
 ghost use Rattle.netlist.specs.FileFormat.{netlistOf};
+ghost use Rattle.netlist.specs.WellFormed.{FoldableRows};
 ghost use Rattle.lasso.specs.Generators.{isUsed, usedCount, bestPhaseCount, phaseCount};
-ghost use Rattle.ternary_step.specs.StateMap.{AnalysisReady, valuePlace, registersBefore, AtRow};
+ghost use Rattle.blockfile.specs.Ready.{Ready};
+ghost use Rattle.ternary_step.specs.StateMap.{valuePlace, registersBefore, AtRow};
 ghost use Rattle.period_finder.specs.PeriodStage.{lassoIn, Lassoed, holdsAs, repeatsIn, generatorIn, periodIn, PeriodPart, periodBytes};
 use ternary_step::HISTORY;
 use ternary_step::VALUES;
@@ -114,7 +116,7 @@ fn period_row(
 
 // Puts each row's period in place of its value: 0 if it has none, or none up to 8.
 pub fn find_periods(file: &[u8], rows: usize, work: &mut [u8], stem: usize, cycle: usize)
-    requires { ⌜ AnalysisReady (now file) rows ⌝ }
+    requires { ⌜ Ready FoldableRows (now file) rows ⌝ }
     requires { ⌜ (stem ≡ lassoIn (netlistOf (now file)) .stem) × ((cycle ≡ lassoIn (netlistOf (now file)) .cycle) × Lassoed (netlistOf (now file)) (now work)) ⌝ }
     ensures { λ _. ⌜ KeptOutside (valuePlace 0) (valuePlace mostOriginalRows) (now (work .entry)) (now (work .exit)) × PeriodPart (netlistOf (now (file .entry))) (now (work .exit)) rows ⌝ }
 {

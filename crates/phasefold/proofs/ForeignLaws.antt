@@ -10,7 +10,7 @@ use Rattle.netlist.specs.Limits.{mostRows}
 use Rattle.netlist.specs.FileFormat.{netlistOf}
 use Rattle.questions.specs.Questions.{Refusal, noRefusal, fileRefusal, Counts, countsOf}
 use Rattle.blockfile.specs.CountCode.{countsIn, EachAtMost}
-use Rattle.blockfile.proofs.ReadyLaws.{ready-of}
+use Rattle.blockfile.proofs.ReadyLaws.{rows-of}
 use Rattle.blockfile.proofs.CountLaws.{counts-small, most-more, counts-all}
 use Rattle.blockfile.specs.declared.count.Counts as code
 use Rattle.accept.specs.Refusals.{numberOf, refusalIn, acceptRefusal}
@@ -47,7 +47,7 @@ module _ (file : List ℕ) (a : CountAnswer) (C : Counted file a) where
     pub counts-fit : EachAtMost (countsIn c) mostRows
     counts-fit =
         let n = length (netlistOf file) in
-        most-more (countsIn c) n mostRows (ready-of file none .few) (counts-small (netlistOf file) n (countsIn c) (counts-are ∙ sym (counts-all (netlistOf file) n refl)))
+        most-more (countsIn c) n mostRows (rows-of file none .few) (counts-small (netlistOf file) n (countsIn c) (counts-are ∙ sym (counts-all (netlistOf file) n refl)))
 
     pub count-flat : (r : PfCounts) → r ≡ acceptedCounts (countsIn c) → r ≡ countNumbers file
     count-flat r h = rw none (h ∙ ap acceptedCounts counts-are)

@@ -1,5 +1,5 @@
 -- What an operation that refuses nothing was given, and that it refuses nothing where it is given that: Check, Fold, Run and Show.
--- Of the rows, in plain words: CheckedRows (questions 6 to 10), AcceptedRows (6 to 13).
+-- Of the rows, in plain words: CheckedRows (questions 6 to 10), FoldableRows (6 to 13).
 -- Assumes nothing.
 use Prim.Native.Nat.{ℕ, _+_, _-_, _*_, _<_, _≤_, _/_}
 use mathlib.Core.Path.{_≡_, refl, sym, ap, _∙_, subst}
@@ -19,7 +19,7 @@ use Rattle.netlist.specs.Limits.{mostPhases, mostSteps, mostRows}
 use Rattle.netlist.specs.Rows.{Row, constant, input, register, andGate, xorGate, muxGate, output, RowFields, encodeRow, rowFromFields, decodeRow, rowAt, phaseOf, hasName, isOutput}
 use Rattle.netlist.specs.FileFormat.{blockCount, blockAt, fieldsOf, fieldsAt, netlistOf, blocksFor}
 use Rattle.netlist.proofs.RowLaws.{output-is, named-alike}
-use Rattle.netlist.specs.WellFormed.{CheckedRows, SameName, OperandsBelow, Ordered, NextBelow, ResetIn, NamesNode, OnLiterals, NamesUnique}
+use Rattle.netlist.specs.WellFormed.{CheckedBy, CheckedRows, SameName, OperandsBelow, Ordered, NextBelow, ResetIn, NamesNode, OnLiterals, NamesUnique, FoldableRows}
 use Rattle.netlist.proofs.FileLaws.{block-at, read-length}
 use Rattle.questions.specs.Questions.{Refusal, noRefusal, question, itemQuestions, lengthRight, sumRight, headRight, countRight, unusedRight, blockQuestions, kindRight, fieldsRight, labelIsNew, namesEarlier, literalsRight, rowQuestions, rowsRefusal, fileRefusalWith, fileRefusal, valueListsRight, allBinary, runMemoryRight, runRefusal, showRefusal}
 use Rattle.questions.proofs.QuestionLaws.{all-none, all-yes, _then_, number-none, question-none, question-of, items-none, items-yes, passed, passed-of}
@@ -251,17 +251,21 @@ module _ (operand : Operand) (ws : List RowFields) (R : RowsRight operand ws) wh
       same-sym : (r s : Row) → SameName r s → SameName s r
       same-sym r s n = record { kind = sym (n .kind); label = sym (n .label); phase = sym (n .phase) }
 
-pub rows-checked : (ws : List RowFields) → RowsRight namesEarlier ws → CheckedRows (map decodeRow ws)
-rows-checked ws R = record {
-  ordered = rows-ordered namesEarlier ws R (namesEarlier-iff (map decodeRow ws));
-  nexts = rows-nexts namesEarlier ws R;
-  resets = rows-resets namesEarlier ws R;
-  phases = rows-phases namesEarlier ws R;
-  constant-first = rows-constant namesEarlier ws R;
-  nodes-first = rows-nodes-first namesEarlier ws R;
-  has-output = rows-output namesEarlier ws R;
-  unique = rows-unique namesEarlier ws R;
+-- Whatever the operands of gates may name.
+pub rows-checked-by : (operand : Operand) (Operands : List Row → Type 0) (ws : List RowFields) → RowsRight operand ws → Operands (map decodeRow ws) → CheckedBy Operands (map decodeRow ws)
+rows-checked-by operand Operands ws R h = record {
+  operands = h;
+  nexts = rows-nexts operand ws R;
+  resets = rows-resets operand ws R;
+  phases = rows-phases operand ws R;
+  constant-first = rows-constant operand ws R;
+  nodes-first = rows-nodes-first operand ws R;
+  has-output = rows-output operand ws R;
+  unique = rows-unique operand ws R;
 }
+
+pub rows-checked : (ws : List RowFields) → RowsRight namesEarlier ws → CheckedRows (map decodeRow ws)
+rows-checked ws R = rows-checked-by namesEarlier Ordered ws R (rows-ordered namesEarlier ws R (namesEarlier-iff (map decodeRow ws)))
 
 pub file-checked : (f : List ℕ) → FileRight namesEarlier f → CheckedRows (netlistOf f)
 unfolding netlistOf

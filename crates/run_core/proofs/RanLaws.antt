@@ -10,11 +10,11 @@ use Rattle.memory.specs.Lists.{countIf}
 use Rattle.netlist.specs.Rows.{isOutput}
 use Rattle.netlist.specs.FileFormat.{netlistOf}
 use Rattle.netlist.specs.RunLayout.{runBytes}
-use Rattle.questions.specs.Questions.{noRefusal, runRefusal}
+use Rattle.questions.specs.Questions.{namesEarlier, noRefusal, runRefusal}
 use Rattle.questions.proofs.QuestionLaws.{number-none}
 use Rattle.questions.proofs.PlainWords.{runMemoryRight-iff}
 use Rattle.questions.proofs.AcceptedFiles.{RunRight, run-accepted}
-use Rattle.blockfile.proofs.ReadyLaws.{ready-right}
+use Rattle.blockfile.proofs.ReadyLaws.{has-rows}
 use Rattle.accept.proofs.RefusalLaws.{number-positive}
 use Rattle.simulate.specs.Values.{IsBinary}
 use Rattle.simulate.specs.Steps.{Given}
@@ -57,7 +57,7 @@ module _ (file : List ℕ) (T : ℕ) (choices inputs result work : List ℕ) (pl
     given-by work′ q =
         let g = planned .go rows nodes ins e in
         let room = runMemoryRight-iff (netlistOf file) T (length result) (length work) .0 (right .memory) .1 in
-        let few = ready-right file (right .file-right) .few in
+        let few = has-rows namesEarlier file (right .file-right) .few in
         let l : length work′ ≡ length work = rw q (length-replicate (length work) 0) in
         let binary : IsBinary work′ = rw q (binary-zeros (length work)) in
         subst (λ (n : ℕ). Given file n nodes ins T choices inputs (length result) work′ n) (sym (g .0))

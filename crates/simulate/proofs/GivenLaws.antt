@@ -1,7 +1,7 @@
 -- What Run was given, where it refuses nothing, is what its steps are given.
 -- Assumes nothing.
 use Prim.Native.Nat.{ℕ, _+_, _≤_}
-use mathlib.Core.Path.{_≡_}
+use mathlib.Core.Path.{_≡_, refl}
 use mathlib.Core.Bool.{not, true}
 use mathlib.Core.List.{List}
 use native.Mathlib.Omega.{arith}
@@ -13,7 +13,8 @@ use Rattle.memory.proofs.TestLaws.{and-true}
 use Rattle.memory.proofs.FieldLaws.{zeros-at}
 use Rattle.netlist.specs.Rows.{isInput, isOutput}
 use Rattle.netlist.specs.FileFormat.{netlistOf}
-use Rattle.questions.specs.Questions.{allBinary}
+use Rattle.netlist.specs.WellFormed.{CheckedRows}
+use Rattle.questions.specs.Questions.{allBinary, namesEarlier}
 use Rattle.questions.proofs.PlainWords.{valueListsRight-iff, allBinary-iff, runMemoryRight-iff}
 use Rattle.questions.proofs.AcceptedFiles.{RunRight, file-checked}
 use Rattle.blockfile.proofs.ReadyLaws.{ready-right}
@@ -37,7 +38,7 @@ given-of f nodes ins T choices inputs result room work half R en ei h k b =
     let lists = valueListsRight-iff (netlistOf f) T choices inputs .0 (R .lists) in
     let values = and-true (allBinary choices) (allBinary inputs) (R .values) in
     record {
-      netlist = record { ready = ready-right f (R .file-right); checked = file-checked f (R .file-right) };
+      netlist = ready-right namesEarlier CheckedRows f (R .file-right) (file-checked f (R .file-right)) (length (netlistOf f)) refl;
       nodes-are = en;
       inputs-are = ei;
       choice-count = lists .0;

@@ -19,12 +19,13 @@ use Rattle.netlist.specs.Rows.{Row, constant, input, register, andGate, xorGate
 use Rattle.netlist.specs.FileFormat.{rowOffset, netlistOf}
 use Rattle.netlist.specs.Simulation.{boolLogic, startBy, rowValue, resetValue, nextValue, valueAt, valuesUpTo, stepValues}
 use Rattle.netlist.specs.RunLayout.{placeAmong}
-use Rattle.netlist.specs.WellFormed.{NextBelow}
+use Rattle.netlist.specs.WellFormed.{NextBelow, CheckedRows}
 use Rattle.netlist.proofs.RowLaws.{next-wider}
 use Rattle.netlist.proofs.SimulationLaws.{literal-cong, row-cong, values-length}
 use Rattle.blockfile.proofs.CountLaws.{count-next, count-some-le, count-place}
+use Rattle.blockfile.specs.Ready.{Ready}
 use Rattle.simulate.specs.Values.{IsBinary, bit, truthAt, bitFrom, bitByte, bitBytes, heldIn, stateFrom, stepInputs, resetChoices, valuesBefore, valuesFrom}
-use Rattle.simulate.specs.Steps.{RowToRun, NetlistReady, ValuesRoom, TwoHalves}
+use Rattle.simulate.specs.Steps.{RowToRun, ValuesRoom, TwoHalves}
 use Rattle.simulate.proofs.BitLaws.{bytes-at, bits-at, binary-set, binary-sets}
 use Rattle.simulate.proofs.WriteLaws.{put-last, put-next}
 use Rattle.simulate.proofs.PlaceLaws.{input-place, register-place}
@@ -77,17 +78,17 @@ halves-written n current previous v w o xs H b e = rw e (record { current-fits =
 pub halves-turned : (n current previous : ℕ) (w : List ℕ) → TwoHalves n current previous w → TwoHalves n previous current w
 halves-turned n current previous w H = record { current-fits = H .previous-fits; previous-fits = H .current-fits; apart = ⊎-elim inr inl (H .apart); binary = H .binary }
 
-module _ (f : List ℕ) (n : ℕ) (N : NetlistReady f n) where
+module _ (f : List ℕ) (n : ℕ) (N : Ready CheckedRows f n) where
   in-rows : (i : ℕ) → i < n → i < length (netlistOf f)
-  in-rows i h = omega (arith, N .ready .count)
+  in-rows i h = omega (arith, N .file .count)
 
   pub row-ready : (i : ℕ) → i < n → RowToRun f i
   row-ready i h = record {
-    few = omega (arith, N .ready .few);
-    inside = N .ready .inside i h;
-    row-is = N .ready .row-is i h;
-    operands = N .checked .ordered i (in-rows i h);
-    reset = N .checked .resets i (in-rows i h);
+    few = omega (arith, N .file .few);
+    inside = N .file .inside i h;
+    row-is = N .file .row-is i h;
+    operands = N .rows .operands i (in-rows i h);
+    reset = N .rows .resets i (in-rows i h);
   }
 
   -- ---- evaluate
@@ -110,7 +111,7 @@ module _ (f : List ℕ) (n : ℕ) (N : NetlistReady f n) where
       input-fits o eo = omega (arith, input-next o eo, count-some-le isInput constant (netlistOf f) (i + 1) .1)
 
   pub next-below : (o m i : ℕ) → o + n ≤ m → i < n → NextBelow (m - o) (rowAt (netlistOf f) i)
-  next-below o m i fits h = next-wider (length (netlistOf f)) (m - o) (omega (arith, N .ready .count)) (rowAt (netlistOf f) i) (N .checked .nexts i (in-rows i h))
+  next-below o m i fits h = next-wider (length (netlistOf f)) (m - o) (omega (arith, N .file .count)) (rowAt (netlistOf f) i) (N .rows .nexts i (in-rows i h))
 
   -- Memory v at the step's start.
   module _ (inputs : List ℕ) (base current previous : ℕ) (initial : Bool) (v : List ℕ) where
@@ -149,13 +150,13 @@ module _ (f : List ℕ) (n : ℕ) (N : NetlistReady f n) where
           where
             held-cong : (t : Bool) → heldIn w previous t i (rowAt (netlistOf f) i) ≡ heldIn v previous t i (rowAt (netlistOf f) i)
             held-cong true = previous-is i h
-            held-cong false = next-cong (bitFrom w previous) (bitFrom v previous) (length (netlistOf f)) (λ j l. previous-is j (omega (arith, N .ready .count))) (rowAt (netlistOf f) i) (N .checked .nexts i (in-rows i h))
+            held-cong false = next-cong (bitFrom w previous) (bitFrom v previous) (length (netlistOf f)) (λ j l. previous-is j (omega (arith, N .file .count))) (rowAt (netlistOf f) i) (N .rows .nexts i (in-rows i h))
 
         value-is : (j : ℕ) → j < i → bitFrom w current j ≡ valueAt boolLogic (values i) j
         value-is j l = ap bit (ap (λ (l : List ℕ). byteAt l (current + j)) ew ∙ sets-at (bitBytes (values i)) v current j (omega (arith, written)) fits) ∙ bits-at (values i) j
 
         input-is-at : (k : ℕ) → k ≡ placeAmong isInput (netlistOf f) i → (l p : ℕ) → rowAt (netlistOf f) i ≡ input l p → truthAt inputs (base + k) ≡ stepInputs (netlistOf f) inputs base l p
-        input-is-at k ek l p e = ap (bitFrom inputs base) (ek ∙ ap (placeAmong isInput (netlistOf f)) (sym (input-place (netlistOf f) (N .checked .unique) i (in-rows i h) l p e)))
+        input-is-at k ek l p e = ap (bitFrom inputs base) (ek ∙ ap (placeAmong isInput (netlistOf f)) (sym (input-place (netlistOf f) (N .rows .unique) i (in-rows i h) l p e)))
 
         pub evaluate-more : (k x : ℕ) → k ≡ placeAmong isInput (netlistOf f) i → x ≡ bitByte (rowValue boolLogic (heldIn w previous initial i (rowAt (netlistOf f) i)) (λ l p. truthAt inputs (base + k)) (bitFrom w current) (rowAt (netlistOf f) i))
             → set w (current + i) x ≡ sets v current (bitBytes (values (i + 1)))
@@ -169,7 +170,7 @@ module _ (f : List ℕ) (n : ℕ) (N : NetlistReady f n) where
             let value : rowValue boolLogic (heldIn w previous initial i r) (λ l p. truthAt inputs (base + k)) (bitFrom w current) r ≡ y =
             ap (λ (t : Bool). rowValue boolLogic t (λ l p. truthAt inputs (base + k)) (bitFrom w current) r) held-is
             ∙ input-cong (valueAt boolLogic s i) (λ l p. truthAt inputs (base + k)) u (bitFrom w current) r (input-is-at k ek)
-            ∙ row-cong boolLogic (valueAt boolLogic s i) u (bitFrom w current) (valueAt boolLogic (values i)) i value-is r (N .checked .ordered i (in-rows i h)) in
+            ∙ row-cong boolLogic (valueAt boolLogic s i) u (bitFrom w current) (valueAt boolLogic (values i)) i value-is r (N .rows .operands i (in-rows i h)) in
             put-last w v (bitBytes (values i)) current (current + i) x ew (omega (arith, written))
             ∙ ap (λ (z : ℕ). sets v current (bitBytes (values i) ++ (z ∷ []))) (ex ∙ ap bitByte value)
             ∙ ap (λ (l : List ℕ). sets v current l) (sym (map-append bitByte (values i) (y ∷ [])))
@@ -178,7 +179,7 @@ module _ (f : List ℕ) (n : ℕ) (N : NetlistReady f n) where
     -- All rows.
     pub evaluate-all : (w : List ℕ) → w ≡ sets v current (bitBytes (values n)) → w ≡ sets v current (bitBytes (valuesFrom (netlistOf f) inputs base (stateFrom (netlistOf f) v previous initial)))
     unfolding stepValues
-    evaluate-all w ew = ew ∙ ap (λ (m : ℕ). sets v current (bitBytes (values m))) (N .ready .count)
+    evaluate-all w ew = ew ∙ ap (λ (m : ℕ). sets v current (bitBytes (values m))) (N .file .count)
 
   -- ---- start
 
@@ -195,7 +196,7 @@ module _ (f : List ℕ) (n : ℕ) (N : NetlistReady f n) where
   -- The byte of each row from `half` on.
   module _ (F : Row → Bool) (low : F constant ≡ false) where
     row-bytes-length : length (bitBytes (map F (netlistOf f))) ≡ n
-    row-bytes-length = length-map (map F (netlistOf f)) bitByte ∙ length-map (netlistOf f) F ∙ sym (N .ready .count)
+    row-bytes-length = length-map (map F (netlistOf f)) bitByte ∙ length-map (netlistOf f) F ∙ sym (N .file .count)
 
     row-byte : (i : ℕ) → byteAt (bitBytes (map F (netlistOf f))) i ≡ bitByte (F (rowAt (netlistOf f) i))
     row-byte i = bytes-at (map F (netlistOf f)) i ∙ ap bitByte (ap (λ (d : Bool). getD (map F (netlistOf f)) i d) (sym low) ∙ List·getD-map F (netlistOf f) i constant)
@@ -215,4 +216,4 @@ module _ (f : List ℕ) (n : ℕ) (N : NetlistReady f n) where
     pub start-more : (p x : ℕ) → w ≡ sets v half (take i (bitBytes (map startIn (netlistOf f)))) → p ≡ half + i → x ≡ bitByte (resetValue boolLogic (λ l. truthAt choices k) (rowAt (netlistOf f) i)) → set w p x ≡ sets v half (take (i + 1) (bitBytes (map startIn (netlistOf f))))
     start-more p x ew ep ex =
         hold-more startIn refl half v W i w h ew p x ep
-        (ex ∙ ap bitByte (choice-cong (λ l. truthAt choices k) (resetChoices (netlistOf f) choices) (rowAt (netlistOf f) i) (λ s m l e. ap (truthAt choices) (ek ∙ ap (placeAmong isUnknown (netlistOf f)) (sym (register-place (netlistOf f) (N .checked .unique) i (in-rows i h) s m l e))))))
+        (ex ∙ ap bitByte (choice-cong (λ l. truthAt choices k) (resetChoices (netlistOf f) choices) (rowAt (netlistOf f) i) (λ s m l e. ap (truthAt choices) (ek ∙ ap (placeAmong isUnknown (netlistOf f)) (sym (register-place (netlistOf f) (N .rows .unique) i (in-rows i h) s m l e))))))

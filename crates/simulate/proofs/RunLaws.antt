@@ -23,9 +23,11 @@ use Rattle.netlist.specs.Simulation.{boolLogic, resetValue, nextValue, valueAt,
 use Rattle.netlist.specs.RunLayout.{valuesFromBytes, stepBytes, runBytes}
 use Rattle.netlist.proofs.RowLaws.{output-is}
 use Rattle.netlist.proofs.SimulationLaws.{values-length}
+use Rattle.netlist.specs.WellFormed.{CheckedRows}
 use Rattle.blockfile.proofs.CountLaws.{count-next}
+use Rattle.blockfile.specs.Ready.{Ready}
 use Rattle.simulate.specs.Values.{bit, bitFrom, bitByte, bitBytes, heldIn, stateFrom, stepInputs, resetChoices, valuesFrom, shownBytes}
-use Rattle.simulate.specs.Steps.{NetlistReady, ValuesRoom, TwoHalves, Given, Stepped}
+use Rattle.simulate.specs.Steps.{ValuesRoom, TwoHalves, Given, Stepped}
 use Rattle.simulate.proofs.BitLaws.{bit-byte, bytes-at, bits-at, binary-bytes}
 use Rattle.simulate.proofs.WriteLaws.{write-front}
 use Rattle.simulate.proofs.PlaceLaws.{node-before, output-from, count-parts}
@@ -88,15 +90,15 @@ module _ (rows : List Row) (vs : List Bool) where
   unfolding shownBytes
   shown-length = shown-upto (length rows) (omega arith) ∙ ap (countIf isOutput) (take-length rows)
 
-module _ (f : List ℕ) (n : ℕ) (N : NetlistReady f n) where
+module _ (f : List ℕ) (n : ℕ) (N : Ready CheckedRows f n) where
   abbrev nodes : ℕ
   nodes = countIf (λ r. not (isOutput r)) (netlistOf f)
 
   pub outputs-are : (nds : ℕ) → nds ≡ nodes → n - nds ≡ countIf isOutput (netlistOf f)
-  outputs-are nds e = omega (arith, count-parts isOutput constant (netlistOf f), N .ready .count)
+  outputs-are nds e = omega (arith, count-parts isOutput constant (netlistOf f), N .file .count)
 
   pub nodes-most : nodes ≤ n
-  nodes-most = omega (arith, count-parts isOutput constant (netlistOf f), N .ready .count)
+  nodes-most = omega (arith, count-parts isOutput constant (netlistOf f), N .file .count)
 
   -- The bytes of the outputs, where the rows' bytes stand from o on.
   shown-is : (vs : List Bool) (w : List ℕ) (o : ℕ) → o + n ≤ length w → ((j : ℕ) → j < n → byteAt w (o + j) ≡ bitByte (valueAt boolLogic vs j)) → take (n - nodes) (drop (o + nodes) w) ≡ shownBytes (netlistOf f) vs
@@ -104,14 +106,14 @@ module _ (f : List ℕ) (n : ℕ) (N : NetlistReady f n) where
   shown-is vs w o room bytes =
       let rows = netlistOf f in
       let m = nodes-most in
-      let z : nodes + (n - nodes) ≡ length rows = omega (arith, N .ready .count) in
+      let z : nodes + (n - nodes) ≡ length rows = omega (arith, N .file .count) in
       sym
       (ap (λ (k : ℕ). joinBelow k (shownAt rows vs)) (sym z)
       ∙ join-tail (shownAt rows vs) w nodes (o + nodes) (n - nodes) (omega arith)
-      (λ j l. shown-node (bitByte (valueAt boolLogic vs j)) (rowAt rows j) (node-before rows (N .checked .nodes-first) j l))
+      (λ j l. shown-node (bitByte (valueAt boolLogic vs j)) (rowAt rows j) (node-before rows (N .rows .nodes-first) j l))
       (λ j l.
       let q : o + nodes + j ≡ o + (nodes + j) = omega arith in
-      shown-output (bitByte (valueAt boolLogic vs (nodes + j))) (rowAt rows (nodes + j)) (output-from rows (N .checked .nodes-first) (nodes + j) (omega (arith, N .ready .count)) (omega arith))
+      shown-output (bitByte (valueAt boolLogic vs (nodes + j))) (rowAt rows (nodes + j)) (output-from rows (N .rows .nodes-first) (nodes + j) (omega (arith, N .file .count)) (omega arith))
       ∙ ap (λ (x : ℕ). x ∷ []) (sym (ap (byteAt w) q ∙ bytes (nodes + j) (omega arith)))))
 
   -- ---- states
@@ -122,7 +124,7 @@ module _ (f : List ℕ) (n : ℕ) (N : NetlistReady f n) where
     state-written ss e ew =
         let m = length (netlistOf f) in
         let k = length-map ss bitByte in
-        let fits : half + length (bitBytes ss) ≤ length v = omega (arith, N .ready .count, W .rows-fit, W .halves-fit) in
+        let fits : half + length (bitBytes ss) ≤ length v = omega (arith, N .file .count, W .rows-fit, W .halves-fit) in
         ext-getD false (tabulate m (bitFrom w half)) ss (tabulate-length m (bitFrom w half) ∙ sym e) (λ j l.
         let b : j < m = omega (arith, l, tabulate-length m (bitFrom w half)) in
         tabulate-at m (bitFrom w half) j false b
@@ -146,12 +148,12 @@ module _ (f : List ℕ) (n : ℕ) (N : NetlistReady f n) where
         ext-getD false (tabulate m held) (map next rows) (tabulate-length m held ∙ sym (length-map rows next)) (λ j l.
         let b : j < m = omega (arith, l, tabulate-length m held) in
         tabulate-at m held j false b
-        ∙ next-cong (bitFrom w o) (valueAt boolLogic vs) m (λ i h. ap bit (values-written i (omega (arith, N .ready .count))) ∙ bit-byte (valueAt boolLogic vs i)) (rowAt rows j) (N .checked .nexts j b)
+        ∙ next-cong (bitFrom w o) (valueAt boolLogic vs) m (λ i h. ap bit (values-written i (omega (arith, N .file .count))) ∙ bit-byte (valueAt boolLogic vs i)) (rowAt rows j) (N .rows .nexts j b)
         ∙ sym (List·getD-map next rows j constant))
 
   values-count : (inputs : List ℕ) (base : ℕ) (state : List Bool) → length (valuesFrom (netlistOf f) inputs base state) ≡ n
   unfolding stepValues
-  values-count inputs base state = values-length boolLogic (netlistOf f) state (stepInputs (netlistOf f) inputs base) (length (netlistOf f)) ∙ sym (N .ready .count)
+  values-count inputs base state = values-length boolLogic (netlistOf f) state (stepInputs (netlistOf f) inputs base) (length (netlistOf f)) ∙ sym (N .file .count)
 
   -- The two passes are a step.
   pub step-of : (inputs : List ℕ) (base current previous : ℕ) (initial : Bool) (nds to : ℕ) (v w r₀ r : List ℕ) → TwoHalves n current previous v → nds ≡ nodes → w ≡ sets v current (bitBytes (valuesFrom (netlistOf f) inputs base (stateFrom (netlistOf f) v previous initial)))
@@ -177,7 +179,7 @@ pub record Running (f : List ℕ) (choices inputs : List ℕ) (n current previou
   pub state : stateFrom (netlistOf f) w previous (eqb t 0) ≡ runState boolLogic (netlistOf f) (valuesFromBytes (netlistOf f) choices inputs .choices) (valuesFromBytes (netlistOf f) choices inputs .inputs) t
   pub shown : r ≡ sets r₀ 0 (runBytes (netlistOf f) choices inputs t)
 
-module _ (f : List ℕ) (n : ℕ) (N : NetlistReady f n) (choices inputs : List ℕ) where
+module _ (f : List ℕ) (n : ℕ) (N : Ready CheckedRows f n) (choices inputs : List ℕ) where
   step-bytes : (vs : List Bool) (t : ℕ) → vs ≡ stepValues boolLogic (netlistOf f) (runState boolLogic (netlistOf f) (valuesFromBytes (netlistOf f) choices inputs .choices) (valuesFromBytes (netlistOf f) choices inputs .inputs) t) (valuesFromBytes (netlistOf f) choices inputs .inputs t)
       → shownBytes (netlistOf f) vs ≡ stepBytes (netlistOf f) (valuesFromBytes (netlistOf f) choices inputs) t
   unfolding shownBytes stepBytes runValue

@@ -14,12 +14,13 @@ use Rattle.netlist.specs.Rows.{constant, rowAt, isInput}
 use Rattle.netlist.specs.FileFormat.{rowOffset, netlistOf}
 use Rattle.netlist.specs.Simulation.{boolLogic, rowValue}
 use Rattle.netlist.specs.RunLayout.{placeAmong}
-use Rattle.netlist.specs.WellFormed.{NextBelow}
+use Rattle.netlist.specs.WellFormed.{NextBelow, CheckedRows}
 use Rattle.blockfile.specs.RowCode.{ifKnown}
 use Rattle.blockfile.proofs.RowCodeLaws.{kind-known}
 use Rattle.blockfile.proofs.CountLaws.{count-some-le}
+use Rattle.blockfile.specs.Ready.{Ready}
 use Rattle.simulate.specs.Values.{IsBinary, truthAt, bitFrom, bitByte, bitBytes, noValue, heldIn, stateFrom, valuesBefore, valuesFrom}
-use Rattle.simulate.specs.Steps.{RowToRun, NetlistReady, TwoHalves, BlockRows, ValuesStand}
+use Rattle.simulate.specs.Steps.{RowToRun, TwoHalves, BlockRows, ValuesStand}
 use Rattle.simulate.proofs.BitLaws.{byte-most, binary-bytes}
 use Rattle.simulate.proofs.PassLaws.{row-ready, next-below, input-there, input-next, input-fits, halves-set, halves-written, evaluate-none, evaluate-more, evaluate-all}
 
@@ -50,7 +51,7 @@ module _ {f inputs : List ℕ} {base current previous : ℕ} {initial : Bool} {s
       walk-place = omega (arith, U .from, U .place-is, B .starts, B .few, B .place)
 
       pub walk-inside : place + 8 ≤ length f
-      walk-inside = omega (arith, walk-place, B .netlist .ready .inside row in-netlist)
+      walk-inside = omega (arith, walk-place, B .netlist .file .inside row in-netlist)
 
       -- What `row_value` requires.
       pub walk-asks : IsBinary inputs
@@ -73,7 +74,7 @@ module _ {f inputs : List ℕ} {base current previous : ℕ} {initial : Bool} {s
 
       -- Its kind is one that there is.
       walk-known : byteAt f place ≤ 6
-      walk-known = subst (λ (p : ℕ). byteAt f p ≤ 6) (sym walk-place) (B .netlist .ready .known row in-netlist)
+      walk-known = subst (λ (p : ℕ). byteAt f p ≤ 6) (sym walk-place) (B .netlist .known row in-netlist)
 
       pub walk-target : current + row < length w
       walk-target = omega (arith, in-netlist, U .halves .current-fits)
@@ -113,22 +114,22 @@ pub record BlocksWalked (f inputs : List ℕ) (base current previous : ℕ) (ini
   pub room : length w ≡ length v
   pub values : ValuesStand f inputs base current previous initial v start w
 
-module _ {f inputs : List ℕ} {n base current previous : ℕ} {initial : Bool} {v : List ℕ} (N : NetlistReady f n) (H : TwoHalves n current previous v) where
+module _ {f inputs : List ℕ} {n base current previous : ℕ} {initial : Bool} {v : List ℕ} (N : Ready CheckedRows f n) (H : TwoHalves n current previous v) where
   pub blocks-none : BlocksWalked f inputs base current previous initial v v 0 4 0
   blocks-none = record { starts = omega arith; place = omega arith; used-is = refl; room = refl; values = evaluate-none f n N inputs base current previous initial v }
 
   module _ {w : List ℕ} {start first used : ℕ} (U : BlocksWalked f inputs base current previous initial v w start first used) where
     -- The rows of the block, or of the rest.
     pub block-rows : {stop : ℕ} → start ≤ stop → stop ≤ start + 63 → stop ≤ n → BlockRows f start stop first
-    block-rows a b c = record { netlist = subst (NetlistReady f) (N .ready .count) N; starts = U .starts; from = a; few = b; within = omega (arith, N .ready .count); place = U .place }
+    block-rows a b c = record { netlist = subst (Ready CheckedRows f) (N .file .count) N; starts = U .starts; from = a; few = b; within = omega (arith, N .file .count); place = U .place }
 
     pub block-halves : TwoHalves (length (netlistOf f)) current previous w
     block-halves =
         let xs = valuesBefore (netlistOf f) inputs base (stateFrom (netlistOf f) v previous initial) start in
-        subst (λ (m : ℕ). TwoHalves m current previous w) (N .ready .count) (halves-written n current previous v w current (bitBytes xs) H (binary-bytes xs) (U .values))
+        subst (λ (m : ℕ). TwoHalves m current previous w) (N .file .count) (halves-written n current previous v w current (bitBytes xs) H (binary-bytes xs) (U .values))
 
     pub block-place : start < n → first < 2 ^ 32
-    block-place h = omega (arith, U .place, N .ready .few)
+    block-place h = omega (arith, U .place, N .file .few)
 
     -- One block more.
     pub blocks-more : {w′ : List ℕ} {more : ℕ} → length w′ ≡ length w → more ≡ placeAmong isInput (netlistOf f) (start + 63) → (ValuesStand f inputs base current previous initial v start w → ValuesStand f inputs base current previous initial v (start + 63) w′)

@@ -23,11 +23,6 @@ pub record RowToRun (f : List ℕ) (i : ℕ) : Type 0 where
   pub operands : OperandsBelow i (rowAt (netlistOf f) i)
   pub reset : ResetIn (rowAt (netlistOf f) i)
 
--- An accepted file of n rows.
-pub record NetlistReady (f : List ℕ) (n : ℕ) : Type 0 where
-  pub ready : Ready f n
-  pub checked : CheckedRows (netlistOf f)
-
 -- Memory for the values of n rows twice, from byte 0 on and from `half` on.
 pub record ValuesRoom (n half : ℕ) (work : List ℕ) : Type 0 where
   pub rows-fit : n ≤ half
@@ -43,7 +38,7 @@ pub record TwoHalves (n current previous : ℕ) (work : List ℕ) : Type 0 where
 
 -- Rows start to stop - 1 of an accepted file stand in one block, whose first row is row start and stands at `first`.
 pub record BlockRows (f : List ℕ) (start stop first : ℕ) : Type 0 where
-  pub netlist : NetlistReady f (length (netlistOf f))
+  pub netlist : Ready CheckedRows f (length (netlistOf f))
   pub starts : start % 63 ≡ 0
   pub from : start ≤ stop
   pub few : stop ≤ start + 63
@@ -56,7 +51,7 @@ ValuesStand f inputs base current previous initial v i w = w ≡ sets v current 
 
 -- What a run of T steps is given.
 pub record Given (f : List ℕ) (n nodes ins T : ℕ) (choices inputs : List ℕ) (result : ℕ) (work : List ℕ) (half : ℕ) : Type 0 where
-  pub netlist : NetlistReady f n
+  pub netlist : Ready CheckedRows f n
   pub nodes-are : nodes ≡ countIf (λ r. not (isOutput r)) (netlistOf f)
   pub inputs-are : ins ≡ countIf isInput (netlistOf f)
   pub choice-count : length choices ≡ countIf isUnknown (netlistOf f)

@@ -13,10 +13,11 @@ ghost use Rattle.netlist.specs.Rows.{rowAt, isInput, isUnknown, isOutput};
 ghost use Rattle.netlist.specs.FileFormat.{rowOffset, netlistOf};
 ghost use Rattle.netlist.specs.Simulation.{boolLogic, boolXor, literalValue, rowValue, resetValue};
 ghost use Rattle.netlist.specs.RunLayout.{placeAmong, runBytes};
-ghost use Rattle.netlist.specs.WellFormed.{NextBelow};
+ghost use Rattle.netlist.specs.WellFormed.{NextBelow, CheckedRows};
 ghost use Rattle.blockfile.specs.RowCode.{ifKnown};
+ghost use Rattle.blockfile.specs.Ready.{Ready};
 ghost use Rattle.simulate.specs.Values.{IsBinary, bit, truthAt, bitFrom, bitByte, bitBytes, noValue, heldIn, stateFrom, resetChoices, valuesFrom};
-ghost use Rattle.simulate.specs.Steps.{RowToRun, NetlistReady, ValuesRoom, TwoHalves, BlockRows, ValuesStand, Given, Stepped};
+ghost use Rattle.simulate.specs.Steps.{RowToRun, ValuesRoom, TwoHalves, BlockRows, ValuesStand, Given, Stepped};
 use blockfile::BLOCK_BYTES;
 use blockfile::BLOCK_ROWS;
 use blockfile::FIRST_ROW;
@@ -192,7 +193,7 @@ fn evaluate(
     previous: usize,
     initial: bool,
 )
-    requires { ⌜ NetlistReady (now file) rows × TwoHalves rows current previous (now work) ⌝ }
+    requires { ⌜ Ready CheckedRows (now file) rows × TwoHalves rows current previous (now work) ⌝ }
     requires { ⌜ IsBinary (now inputs) × (base + countIf isInput (netlistOf (now file)) ≤ length (now inputs)) ⌝ }
     ensures { λ _. ⌜ now (work .exit) ≡ sets (now (work .entry)) current (bitBytes (valuesFrom (netlistOf (now (file .entry))) (now (inputs .entry)) base (stateFrom (netlistOf (now (file .entry))) (now (work .entry)) previous initial))) ⌝ }
 {
@@ -269,7 +270,7 @@ fn unknown_at(file: &[u8], row: usize) -> usize
 
 // Each register takes its first value.
 fn start(file: &[u8], rows: usize, choices: &[u8], work: &mut [u8], half: usize)
-    requires { ⌜ NetlistReady (now file) rows × ValuesRoom rows half (now work) ⌝ }
+    requires { ⌜ Ready CheckedRows (now file) rows × ValuesRoom rows half (now work) ⌝ }
     requires { ⌜ IsBinary (now choices) × (countIf isUnknown (netlistOf (now file)) ≤ length (now choices)) ⌝ }
     ensures { λ _. ⌜ now (work .exit) ≡ sets (now (work .entry)) half (bitBytes (map (resetValue boolLogic (resetChoices (netlistOf (now (file .entry))) (now (choices .entry)))) (netlistOf (now (file .entry))))) ⌝ }
 {
@@ -313,7 +314,7 @@ fn step(
     previous: usize,
     initial: bool,
 )
-    requires { ⌜ NetlistReady (now file) rows × TwoHalves rows current previous (now work) ⌝ }
+    requires { ⌜ Ready CheckedRows (now file) rows × TwoHalves rows current previous (now work) ⌝ }
     requires { ⌜ IsBinary (now inputs) × (base + countIf isInput (netlistOf (now file)) ≤ length (now inputs)) ⌝ }
     requires { ⌜ (nodes ≡ countIf (λ r. not (isOutput r)) (netlistOf (now file))) × (to + (rows - nodes) ≤ length (now result)) ⌝ }
     ensures { λ _. ⌜ Stepped (netlistOf (now (file .entry))) (valuesFrom (netlistOf (now (file .entry))) (now (inputs .entry)) base (stateFrom (netlistOf (now (file .entry))) (now (work .entry)) previous initial)) current to (now (work .entry)) (now (work .exit)) (now (result .entry)) (now (result .exit)) ⌝ }

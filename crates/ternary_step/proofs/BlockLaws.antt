@@ -6,10 +6,12 @@ use mathlib.Core.List.{List}
 use native.Mathlib.Omega.{arith}
 use Rattle.netlist.specs.Limits.{mostOriginalRows}
 use Rattle.netlist.specs.FileFormat.{rowOffset, netlistOf}
-use Rattle.ternary_step.specs.StateMap.{AnalysisReady, registersBefore, AtRow, InBlock, BlockStop}
+use Rattle.netlist.specs.WellFormed.{FoldableRows}
+use Rattle.blockfile.specs.Ready.{Ready}
+use Rattle.ternary_step.specs.StateMap.{registersBefore, AtRow, InBlock, BlockStop}
 
-pub rows-small : {f : List ℕ} {n : ℕ} → AnalysisReady f n → n ≤ mostOriginalRows
-rows-small R = let c = R .file .count in let s = R .accepted .small in omega arith
+pub rows-small : {f : List ℕ} {n : ℕ} → Ready FoldableRows f n → n ≤ mostOriginalRows
+rows-small R = let c = R .file .count in let s = R .rows .small in omega arith
 
 -- A row of the block stands 8 bytes behind the one before it.
 module _ {f : List ℕ} {n start stop first before : ℕ} (B : InBlock f n start stop first before) where
@@ -32,7 +34,7 @@ abbrev pub StartsBlock : ℕ → ℕ → ℕ → Type 0
 StartsBlock start n first = start < n → (start % 63 ≡ 0) × (first ≡ rowOffset start)
 
 module _ {start n first stop : ℕ} (less : start < n) (S : StartsBlock start n first) (E : BlockStop start n stop) where
-  pub block-of : {f : List ℕ} {before : ℕ} → AnalysisReady f n → before ≡ registersBefore (netlistOf f) start → InBlock f n start stop first before
+  pub block-of : {f : List ℕ} {before : ℕ} → Ready FoldableRows f n → before ≡ registersBefore (netlistOf f) start → InBlock f n start stop first before
   block-of R number =
       let f = E .from in record {
         ready = R;

@@ -19,7 +19,7 @@ use Rattle.netlist.specs.Limits.{mostOriginalRows, mostOriginalRegisters, foldW
 use Rattle.netlist.specs.Rows.{Row, rowAt, isRegister}
 use Rattle.netlist.specs.Simulation.{literalValue}
 use Rattle.lasso.specs.TernaryRun.{ternaryLogic}
-use Rattle.netlist.specs.WellFormed.{AcceptedRows}
+use Rattle.netlist.specs.WellFormed.{FoldableRows}
 use Rattle.netlist.proofs.SimulationLaws.{literal-cong}
 use Rattle.lasso.specs.Generators.{stateValue}
 use Rattle.ternary_step.specs.WorkMap.{knownPlace}
@@ -86,9 +86,9 @@ module _ {w : List ℕ} {n m : ℕ} (R : NextReady w n m) {w₁ : List ℕ} {j :
 
 -- ---- what is shown in step u is state u + 1
 
-module _ {rows : List Row} (accepted : AcceptedRows rows) where
+module _ {rows : List Row} (accepted : FoldableRows rows) where
   next-below : (x : ℕ) → x < length rows → isRegister (rowAt rows x) ≡ true → nextOf (rowAt rows x) / 2 < length rows
-  next-below x h e = subst (λ (T : Type 0). T) (on-next (Unit {0}) (λ a. a / 2 < length rows) (rowAt rows x) e) (accepted .formed .nexts x h)
+  next-below x h e = subst (λ (T : Type 0). T) (on-next (Unit {0}) (λ a. a / 2 < length rows) (rowAt rows x) e) (accepted .checked .nexts x h)
 
   module _ (w : List ℕ) (nexts : NextsListed rows w (length rows)) where
     listed-below : (i : ℕ) → i ≤ length rows → (j : ℕ) → j < registersBefore rows i → u16At w (nextPlace j) / 2 < length rows
@@ -134,7 +134,7 @@ module _ {rows : List Row} {w : List ℕ} {m : ℕ} (from : 1 ≤ m) (to : m ≤
   pub evaluate-asks : Evaluated rows w (m - 1) 0
   evaluate-asks = record { coded = S .coded; state = S .stored (m - 1) (omega arith); values = λ x l. absurd (omega arith) }
 
-  module _ {n registers : ℕ} {w₁ : List ℕ} (accepted : AcceptedRows rows) (few : countIf isRegister rows ≤ mostOriginalRegisters) (count : n ≡ length rows) (number : registers ≡ countIf isRegister rows) (K : ValuesKept w w₁) (E : Evaluated rows w₁ (m - 1) n) where
+  module _ {n registers : ℕ} {w₁ : List ℕ} (accepted : FoldableRows rows) (few : countIf isRegister rows ≤ mostOriginalRegisters) (count : n ≡ length rows) (number : registers ≡ countIf isRegister rows) (K : ValuesKept w w₁) (E : Evaluated rows w₁ (m - 1) n) where
     nexts-valued : NextsListed rows w₁ (length rows)
     nexts-valued x h e = u16-kept K (nextPlace (registersBefore rows x)) (λ y p q c d. omega arith) ∙ S .nexts x h e
 

@@ -9,16 +9,17 @@ use Rattle.memory.proofs.FieldLaws.{zeros-at}
 use Rattle.netlist.specs.Limits.{foldWorkBytes}
 use Rattle.netlist.specs.Rows.{Row}
 use Rattle.netlist.specs.FileFormat.{netlistOf}
+use Rattle.netlist.specs.WellFormed.{FoldableRows}
 use Rattle.questions.specs.Questions.{namesEarlier}
 use Rattle.questions.proofs.AcceptedFiles.{FileRight, file-checked}
-use Rattle.fold_questions.proofs.FoldAccepted.{OriginalRight, rows-accepted}
+use Rattle.fold_questions.proofs.FoldAccepted.{OriginalRight, rows-foldable}
 use Rattle.blockfile.specs.Ready.{Ready}
 use Rattle.blockfile.proofs.ReadyLaws.{ready-right}
-use Rattle.ternary_step.specs.StateMap.{AnalysisReady, ClearedWork, statePlace, valuePlace, Packed, stateCodes, Started}
+use Rattle.ternary_step.specs.StateMap.{ClearedWork, statePlace, valuePlace, Packed, stateCodes, Started}
 use Rattle.ternary_step.proofs.CodeLaws.{packed-none}
 
-pub analysis-ready : (f : List ℕ) → FileRight namesEarlier f → (n : ℕ) → n ≡ length (netlistOf f) → OriginalRight (netlistOf f) → AnalysisReady f n
-analysis-ready f F n e O = record { file = subst (Ready f) (sym e) (ready-right f F); accepted = rows-accepted (netlistOf f) (file-checked f F) O; registers = O .registers }
+pub analysis-ready : (f : List ℕ) → FileRight namesEarlier f → (n : ℕ) → n ≡ length (netlistOf f) → OriginalRight (netlistOf f) → Ready FoldableRows f n
+analysis-ready f F n e O = ready-right namesEarlier FoldableRows f F (rows-foldable (netlistOf f) (file-checked f F) O) n e
 
 pub work-ready-of : (w : List ℕ) (n : ℕ) → w ≡ replicate n 0 → foldWorkBytes ≤ length w → ClearedWork w
 work-ready-of w n e h = record { room = h; zero = λ x. rw e (zeros-at n x) }

@@ -114,13 +114,13 @@ module _ {f : List ℕ} {n i j : ℕ} (A : AtRow f n i j) where
   row-within = let e = A .ready .file .count in let h = A .within in omega arith
 
   pub row-small : i < mostOriginalRows
-  row-small = let s = A .ready .accepted .small in let h = row-within in omega arith
+  row-small = let s = A .ready .rows .small in let h = row-within in omega arith
 
   pub read-asks : (i < mostRows) × (rowOffset i + 8 ≤ length f)
   read-asks = let s = row-small in (omega arith, A .ready .file .inside i (A .within))
 
   pub number-small : j ≤ mostOriginalRegisters
-  number-small = let h = row-within in omega (arith, A .number, A .ready .registers, count-some-le isRegister constant (netlistOf f) i .1)
+  number-small = let h = row-within in omega (arith, A .number, A .ready .rows .registers, count-some-le isRegister constant (netlistOf f) i .1)
 
   module _ (r : Fields) (read : fieldsIn r ≡ readFields f i) where
     row-is : rowAt (netlistOf f) i ≡ decodeRow (fieldsIn r)
@@ -130,7 +130,7 @@ module _ {f : List ℕ} {n i j : ℕ} (A : AtRow f n i j) where
     register-is = ap isRegister row-is
 
     pub register-small : isRegister (decodeRow (fieldsIn r)) ≡ true → j < mostOriginalRegisters
-    register-small e = omega (arith, A .number, A .ready .registers, count-place isRegister constant (netlistOf f) i row-within (register-is ∙ e))
+    register-small e = omega (arith, A .number, A .ready .rows .registers, count-place isRegister constant (netlistOf f) i row-within (register-is ∙ e))
 
     -- The number of registers after row i.
     pub number-next : (k : ℕ) → k ≡ j + cond (eqb (r .kind) 2) 1 0 → k ≡ registersBefore (netlistOf f) (i + 1)
@@ -140,7 +140,7 @@ module _ {f : List ℕ} {n i j : ℕ} (A : AtRow f n i j) where
 
     -- By its kind, which is one that there is.
     kind-is : r .kind ≤ 6
-    kind-is = subst (λ (x : RowFields). x .kind ≤ 6) (sym read) (A .ready .file .known i (A .within))
+    kind-is = subst (λ (x : RowFields). x .kind ≤ 6) (sym read) (A .ready .known i (A .within))
 
     pub register-yes : r .kind ≡ 2 → isRegister (decodeRow (fieldsIn r)) ≡ true
     register-yes e = sorts-by (r .kind) (r .reset) (r .a) (r .b) (r .c) .register-if ∙ eq-eqb (r .kind) 2 e
@@ -162,7 +162,7 @@ module _ {f : List ℕ} {n i j : ℕ} (A : AtRow f n i j) where
       held-code e =
           let s = number-small in
           rw (place, A .number)
-          (packed-at w (statePlace t) (stateCodes (netlistOf f) t (length (netlistOf f))) (E .state) (registersBefore (netlistOf f) i) (omega (arith, A .ready .registers, count-place isRegister constant (netlistOf f) i row-within e))
+          (packed-at w (statePlace t) (stateCodes (netlistOf f) t (length (netlistOf f))) (E .state) (registersBefore (netlistOf f) i) (omega (arith, A .ready .rows .registers, count-place isRegister constant (netlistOf f) i row-within e))
           ∙ codes-at (netlistOf f) t (length (netlistOf f)) i (omega arith) row-within e)
 
       pub row-asks : t < lastState → RowToEvaluate w r base j
@@ -171,7 +171,7 @@ module _ {f : List ℕ} {n i j : ℕ} (A : AtRow f n i j) where
             coded = E .coded;
             bound = i;
             few = omega arith;
-            operands = subst (OperandsBelow i) row-is (A .ready .accepted .formed .ordered i row-within);
+            operands = subst (OperandsBelow i) row-is (A .ready .rows .checked .operands i row-within);
             base-small = omega arith;
             held = λ e. (register-small e, rw (held-code (register-is ∙ e)) (code-below (stateValue (netlistOf f) i t)));
           }
@@ -184,7 +184,7 @@ module _ {f : List ℕ} {n i j : ℕ} (A : AtRow f n i j) where
       -- The value worked out is the run's.
       row-value-is : rowIn w r base j ≡ stepValue (netlistOf f) t i
       row-value-is =
-          let o = A .ready .accepted .formed .ordered in
+          let o = A .ready .rows .checked .operands in
           ap (rowValue ternaryLogic (valueOf (codeAt w base j)) (λ l p. X) (valueIn w)) (sym row-is)
           ∙ value-held (isRegister (rowAt (netlistOf f) i)) refl
           ∙ row-cong ternaryLogic (stateValue (netlistOf f) i t) (λ l p. X) (valueIn w) (stepValue (netlistOf f) t) i (λ x h. ap valueOf (E .values x h) ∙ value-of-code (stepValue (netlistOf f) t x)) (rowAt (netlistOf f) i) (o i row-within)
@@ -226,7 +226,7 @@ module _ {f : List ℕ} {n i j : ℕ} (A : AtRow f n i j) where
       on-register d g = ap (onRegister d g) register-at
 
       reset-in : r .reset ≤ 2
-      reset-in = subst (λ (T : Type 0). T) (on-register (Unit {0}) (λ s a l. s ≤ 2)) (A .ready .accepted .resets i row-within)
+      reset-in = subst (λ (T : Type 0). T) (on-register (Unit {0}) (λ s a l. s ≤ 2)) (A .ready .rows .checked .resets i row-within)
 
       -- The reset is the code in state 0.
       reset-is : r .reset ≡ codeOf (stateValue (netlistOf f) i 0)

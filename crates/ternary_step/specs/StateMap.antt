@@ -1,5 +1,5 @@
 -- Fold's work memory while the lasso is sought: the states, four registers to a byte, each row's value, a byte each, and the registers' next-value literals, two bytes each.
--- Interface: AnalysisReady (what an accepted file gives), ClearedWork, statePlace, valuePlace, nextPlace, Packed, Stored, Valued.
+-- Interface: ClearedWork, statePlace, valuePlace, nextPlace, Packed, Stored, Valued.
 -- Assumes nothing.
 use Prim.Native.Nat.{ℕ, _+_, _*_, _<_, _≤_, _/_, _%_, _^_}
 use mathlib.Core.Path.{_≡_}
@@ -14,18 +14,12 @@ use Rattle.netlist.specs.Rows.{Row, decodeRow, rowAt, onRegister, isRegister}
 use Rattle.netlist.specs.FileFormat.{rowOffset, netlistOf}
 use Rattle.netlist.specs.Simulation.{literalValue, rowValue, runValue}
 use Rattle.lasso.specs.TernaryRun.{ternaryLogic}
-use Rattle.netlist.specs.WellFormed.{OperandsBelow, AcceptedRows}
+use Rattle.netlist.specs.WellFormed.{OperandsBelow, FoldableRows}
 use Rattle.lasso.specs.Generators.{stateValue}
 use Rattle.ternary_step.specs.WorkMap.{knownPlace}
 use Rattle.blockfile.specs.RowCode.{fieldsIn}
 use Rattle.blockfile.specs.declared.Fields.{Fields}
 use Rattle.blockfile.specs.Ready.{Ready}
-
--- The n rows of the file f stand in it, and are right by questions 6 to 13.
-pub record AnalysisReady (f : List ℕ) (n : ℕ) : Type 0 where
-  pub file : Ready f n
-  pub accepted : AcceptedRows (netlistOf f)
-  pub registers : countIf isRegister (netlistOf f) ≤ mostOriginalRegisters
 
 -- The work memory at the start: long enough, and all 0.
 pub record ClearedWork (w : List ℕ) : Type 0 where
@@ -119,13 +113,13 @@ noCode = 3
 
 -- Row i is one of the n rows of the file f, and j registers stand before it.
 pub record AtRow (f : List ℕ) (n i j : ℕ) : Type 0 where
-  pub ready : AnalysisReady f n
+  pub ready : Ready FoldableRows f n
   pub within : i < n
   pub number : j ≡ registersBefore (netlistOf f) i
 
 -- Rows start to stop - 1 are rows of the file f, which has n, and of one block, whose first row is row start and stands at `first`; `before` registers stand before it.
 pub record InBlock (f : List ℕ) (n start stop first before : ℕ) : Type 0 where
-  pub ready : AnalysisReady f n
+  pub ready : Ready FoldableRows f n
   pub starts : start % 63 ≡ 0
   pub from : start ≤ stop
   pub few : stop ≤ start + 63

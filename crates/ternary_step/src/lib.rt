@@ -12,8 +12,10 @@ ghost use Rattle.ternary.specs.Ternary.{and3, xor3, mux3, codeOf};
 ghost use Rattle.netlist.specs.Limits.{mostOriginalRows, mostOriginalRegisters, foldWorkBytes, lastState};
 ghost use Rattle.netlist.specs.Rows.{isRegister};
 ghost use Rattle.netlist.specs.FileFormat.{rowOffset, netlistOf};
+ghost use Rattle.netlist.specs.WellFormed.{FoldableRows};
 ghost use Rattle.blockfile.specs.RowCode.{ifKnown};
-ghost use Rattle.ternary_step.specs.StateMap.{AnalysisReady, statePlace, valuePlace, nextPlace, codeAt, stateBytes, Packed, registersBefore, Coded, literalIn, RowToEvaluate, rowIn, noCode, AtRow, InBlock, BlockStop, Evaluated, Started, shownCodes, NextReady, Searched};
+ghost use Rattle.blockfile.specs.Ready.{Ready};
+ghost use Rattle.ternary_step.specs.StateMap.{statePlace, valuePlace, nextPlace, codeAt, stateBytes, Packed, registersBefore, Coded, literalIn, RowToEvaluate, rowIn, noCode, AtRow, InBlock, BlockStop, Evaluated, Started, shownCodes, NextReady, Searched};
 ghost use Rattle.ternary_step.specs.WorkMap.{knownPlace};
 use blockfile::BLOCK_BYTES;
 use blockfile::BLOCK_ROWS;
@@ -185,7 +187,7 @@ fn block_stop(start: usize, rows: usize) -> usize
 
 // Puts the values of all rows in step t, from state t, block by block.
 fn evaluate(file: &[u8], rows: usize, work: &mut [u8], t: usize)
-    requires { ⌜ AnalysisReady (now file) rows ⌝ }
+    requires { ⌜ Ready FoldableRows (now file) rows ⌝ }
     requires { ⌜ (t < lastState) × Evaluated (netlistOf (now file)) (now work) t 0 ⌝ }
     ensures { λ _. ⌜ KeptOutside (valuePlace 0) (valuePlace mostOriginalRows) (now (work .entry)) (now (work .exit)) × Evaluated (netlistOf (now (file .entry))) (now (work .exit)) t rows ⌝ }
 {
@@ -244,7 +246,7 @@ fn start_row(file: &[u8], rows: usize, row: usize, j: usize, work: &mut [u8]) ->
 
 // Puts state 0 in its place and lists the registers' next-value literals; answers the number of registers.
 pub fn start(file: &[u8], rows: usize, work: &mut [u8]) -> usize
-    requires { ⌜ AnalysisReady (now file) rows ⌝ }
+    requires { ⌜ Ready FoldableRows (now file) rows ⌝ }
     requires { ⌜ Started (netlistOf (now file)) (now work) 0 ⌝ }
     ensures { λ r. ⌜ (r ≡ countIf isRegister (netlistOf (now (file .entry)))) × (KeptOutside (statePlace 0) (nextPlace mostOriginalRegisters) (now (work .entry)) (now (work .exit)) × Started (netlistOf (now (file .entry))) (now (work .exit)) rows) ⌝ }
 {
@@ -277,7 +279,7 @@ fn pack_next(work: &mut [u8], n: usize, m: usize)
 
 // Puts state m in its place, from state m - 1; there are `registers` registers.
 pub fn advance(file: &[u8], rows: usize, registers: usize, work: &mut [u8], m: usize)
-    requires { ⌜ AnalysisReady (now file) rows × (registers ≡ countIf isRegister (netlistOf (now file))) ⌝ }
+    requires { ⌜ Ready FoldableRows (now file) rows × (registers ≡ countIf isRegister (netlistOf (now file))) ⌝ }
     requires { ⌜ (1 ≤ m) × ((m ≤ lastState) × Searched (netlistOf (now file)) (now work) m) ⌝ }
     ensures { λ _. ⌜ KeptOutside (statePlace 0) (knownPlace 0) (now (work .entry)) (now (work .exit)) × Searched (netlistOf (now (file .entry))) (now (work .exit)) (m + 1) ⌝ }
 {

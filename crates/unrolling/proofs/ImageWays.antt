@@ -13,16 +13,17 @@ use Rattle.ternary.specs.Ternary.{lo, hi, X}
 use Rattle.netlist.specs.Limits.{mostRows, mostOriginalRows}
 use Rattle.netlist.specs.Rows.{input, register, RowFields, rowFromFields, decodeRow, rowAt}
 use Rattle.netlist.specs.FileFormat.{readFields, netlistOf}
-use Rattle.netlist.specs.WellFormed.{OperandsBelow, NextBelow}
+use Rattle.netlist.specs.WellFormed.{OperandsBelow, NextBelow, FoldableRows}
 use Rattle.abstraction.specs.GateMaking.{complement, newRow, makeAnd, makeXor, makeMux}
 use Rattle.abstraction.specs.Unrolling.{complementBy, imageLiteral, registerImage, rowImage}
 use Rattle.blockfile.specs.RowCode.{ifKnown}
 use Rattle.blockfile.proofs.RowCodeLaws.{kind-unknown}
+use Rattle.blockfile.specs.Ready.{Ready}
 use Rattle.gates.specs.declared.MadeImage.{MadeImage}
 use Rattle.gates.specs.declared.MadeImage.the-variants.{Existing}
 use Rattle.gates.specs.ImageCode.{imageCode}
 use Rattle.ternary_step.specs.WorkMap.{knownPlace, knownIn}
-use Rattle.unrolling.specs.UnrollMap.{Original, imagePlace, imagesIn, noLiteral}
+use Rattle.unrolling.specs.UnrollMap.{imagePlace, imagesIn, noLiteral}
 use Rattle.unrolling.proofs.StoredBytes.{image-get}
 
 -- ---- a literal
@@ -69,7 +70,7 @@ literal-of-none = omega arith
 -- ---- a row
 
 -- The fields of row i of the file.
-module _ (f : List ℕ) (i : ℕ) (O : Original f) (h : i < length (netlistOf f)) (d s a b c : ℕ) (e : _≡_ {A = RowFields} (record { kind = d; reset = s; a = a; b = b; c = c }) (readFields f i)) where
+module _ (f : List ℕ) (i : ℕ) (O : Ready FoldableRows f (length (netlistOf f))) (h : i < length (netlistOf f)) (d s a b c : ℕ) (e : _≡_ {A = RowFields} (record { kind = d; reset = s; a = a; b = b; c = c }) (readFields f i)) where
   row-is : rowAt (netlistOf f) i ≡ rowFromFields d s a b c
   row-is = O .file .row-is i h ∙ ap decodeRow (sym e)
 
@@ -78,10 +79,10 @@ module _ (f : List ℕ) (i : ℕ) (O : Original f) (h : i < length (netlistOf f)
 
   -- What its literals may name, by its kind.
   next : NextBelow (length (netlistOf f)) (rowFromFields d s a b c)
-  next = subst (NextBelow (length (netlistOf f))) row-is (O .accepted .formed .nexts i h)
+  next = subst (NextBelow (length (netlistOf f))) row-is (O .rows .checked .nexts i h)
 
   operands : OperandsBelow i (rowFromFields d s a b c)
-  operands = subst (OperandsBelow i) row-is (O .accepted .formed .ordered i h)
+  operands = subst (OperandsBelow i) row-is (O .rows .checked .operands i h)
 
   next-names : d ≡ 2 → a / 2 < length (netlistOf f)
   next-names q = rw q at next
@@ -100,31 +101,31 @@ module _ (f : List ℕ) (i : ℕ) (O : Original f) (h : i < length (netlistOf f)
 
   -- So each is in range.
   pub next-fits : d ≡ 2 → a / 2 < mostOriginalRows
-  next-fits q = omega (arith, next-names q, O .accepted .small)
+  next-fits q = omega (arith, next-names q, O .rows .small)
 
   pub and-first-fits : d ≡ 3 → a / 2 < mostOriginalRows
-  and-first-fits q = omega (arith, and-names q, O .accepted .small)
+  and-first-fits q = omega (arith, and-names q, O .rows .small)
 
   pub and-second-fits : d ≡ 3 → b / 2 < mostOriginalRows
-  and-second-fits q = omega (arith, and-names q, O .accepted .small)
+  and-second-fits q = omega (arith, and-names q, O .rows .small)
 
   pub xor-first-fits : d ≡ 4 → a / 2 < mostOriginalRows
-  xor-first-fits q = omega (arith, xor-names q, O .accepted .small)
+  xor-first-fits q = omega (arith, xor-names q, O .rows .small)
 
   pub xor-second-fits : d ≡ 4 → b / 2 < mostOriginalRows
-  xor-second-fits q = omega (arith, xor-names q, O .accepted .small)
+  xor-second-fits q = omega (arith, xor-names q, O .rows .small)
 
   pub mux-first-fits : d ≡ 5 → a / 2 < mostOriginalRows
-  mux-first-fits q = omega (arith, mux-names q, O .accepted .small)
+  mux-first-fits q = omega (arith, mux-names q, O .rows .small)
 
   pub mux-second-fits : d ≡ 5 → b / 2 < mostOriginalRows
-  mux-second-fits q = omega (arith, mux-names q, O .accepted .small)
+  mux-second-fits q = omega (arith, mux-names q, O .rows .small)
 
   pub mux-third-fits : d ≡ 5 → c / 2 < mostOriginalRows
-  mux-third-fits q = omega (arith, mux-names q, O .accepted .small)
+  mux-third-fits q = omega (arith, mux-names q, O .rows .small)
 
   pub output-fits : d ≡ 6 → a / 2 < mostOriginalRows
-  output-fits q = omega (arith, output-names q, O .accepted .small)
+  output-fits q = omega (arith, output-names q, O .rows .small)
 
   -- Its image in phase k.
   module _ (w : List ℕ) (k : ℕ) where

@@ -13,10 +13,12 @@ use Rattle.memory.proofs.TestLaws.{last-or}
 use Rattle.netlist.specs.Limits.{mostFoldedRows, foldResultBytes}
 use Rattle.netlist.specs.Rows.{Row, output, rowFromFields, decodeRow}
 use Rattle.netlist.specs.FileFormat.{rowOffset, readFields, netlistOf, fieldBytes, rowBytes}
+use Rattle.netlist.specs.WellFormed.{FoldableRows}
 use Rattle.abstraction.specs.Unrolling.{phaseOutput}
 use Rattle.blockfile.specs.RowsStand.{RowsStand}
 use Rattle.blockfile.proofs.StandLaws.{row-room, stand-more}
-use Rattle.unrolling.specs.UnrollMap.{Original, imagePlace, imagesIn, fieldsMade, Appended, outputAt}
+use Rattle.blockfile.specs.Ready.{Ready}
+use Rattle.unrolling.specs.UnrollMap.{imagePlace, imagesIn, fieldsMade, Appended, outputAt}
 use Rattle.unrolling.proofs.StoredBytes.{image-get}
 
 -- ---- rows appended
@@ -50,7 +52,7 @@ output-none k v (suc (suc (suc (suc (suc (suc (suc d))))))) s a b c n = refl
 output-one : (k v d s a b c : ℕ) → d ≡ 6 → phaseOutput k v (rowFromFields d s a b c) ≡ output v b k ∷ []
 output-one k v d s a b c e = rw e
 
-module _ (f w : List ℕ) (k i place : ℕ) (O : Original f) (h : i < length (netlistOf f)) (e : place ≡ rowOffset i) where
+module _ (f w : List ℕ) (k i place : ℕ) (O : Ready FoldableRows f (length (netlistOf f))) (h : i < length (netlistOf f)) (e : place ≡ rowOffset i) where
   abbrev image : ℕ
   image = getD (imagesIn w k (length (netlistOf f))) i 0
 

@@ -14,18 +14,20 @@ use Rattle.ternary.specs.Ternary.{Ternary}
 use Rattle.netlist.specs.Limits.{mostFoldedRows, mostPhases, mostOriginalRows}
 use Rattle.netlist.specs.Rows.{Row, constant, encodeRow, rowAt}
 use Rattle.netlist.specs.FileFormat.{rowOffset, readFields, fieldBytes, netlistOf}
+use Rattle.netlist.specs.WellFormed.{FoldableRows}
 use Rattle.abstraction.specs.GateMaking.{Image, existing, newRow, Unrolling, addImage}
 use Rattle.abstraction.specs.Unrolling.{rowImage, imageAt, unrollPhase, unrollPhases}
 use Rattle.blockfile.specs.RowCode.{ifKnown}
 use Rattle.blockfile.specs.RowsStand.{RowsStand}
 use Rattle.blockfile.proofs.RowCodeLaws.{kind-known}
 use Rattle.blockfile.proofs.StandLaws.{row-room, stand-more}
+use Rattle.blockfile.specs.Ready.{Ready}
 use Rattle.gates.specs.declared.MadeRow.{MadeRow}
 use Rattle.gates.specs.declared.MadeImage.{MadeImage}
 use Rattle.gates.specs.declared.MadeImage.the-variants.{Existing, NewRow}
 use Rattle.gates.specs.ImageCode.{imageCode}
 use Rattle.ternary_step.specs.WorkMap.{knownPlace, knownIn}
-use Rattle.unrolling.specs.UnrollMap.{Original, Room, imagePlace, imagesEnd, imagesIn, noLiteral, fieldsMade, literalMade, ImagePlaced, Placed, unrolledTo, UnderWay}
+use Rattle.unrolling.specs.UnrollMap.{Room, imagePlace, imagesEnd, imagesIn, noLiteral, fieldsMade, literalMade, ImagePlaced, Placed, unrolledTo, UnderWay}
 use Rattle.unrolling.proofs.StoredBytes.{images-kept, images-more}
 use Rattle.unrolling.proofs.UnrollFacts.{image-first, made-few}
 
@@ -97,17 +99,17 @@ module _ (clock : ℕ → ℕ → Ternary) (rows : List Row) (k i : ℕ) (result
         earlier = λ j l. images-kept work work′ (imagePlace k i) j (length rows) (literal-frame image m (imagePlace k i) r result work result′ work′ I .before) (omega arith) ∙ U .earlier j l;
       }
 
-module _ (f : List ℕ) (k i m : ℕ) (result work : List ℕ) (O : Original f) (ib : i < length (netlistOf f)) (kb : k < mostPhases) (U : UnderWay (knownIn work) (netlistOf f) k i result work m) where
+module _ (f : List ℕ) (k i m : ℕ) (result work : List ℕ) (O : Ready FoldableRows f (length (netlistOf f))) (ib : i < length (netlistOf f)) (kb : k < mostPhases) (U : UnderWay (knownIn work) (netlistOf f) k i result work m) where
   pub row-fits : m < mostFoldedRows
-  row-fits = omega (arith, U .placed .counted, made-few (knownIn work) (netlistOf f) (O .accepted) k i kb ib)
+  row-fits = omega (arith, U .placed .counted, made-few (knownIn work) (netlistOf f) (O .rows) k i kb ib)
 
   pub row-done : (image : MadeImage) (result′ work′ : List ℕ) (r : ℕ) → Room result work
       → image ≡ ifKnown (readFields f i .kind) (imageCode (rowImage (knownIn work i k) k (imagesIn work (k - 1) (length (netlistOf f))) (imagesIn work k i) (rowAt (netlistOf f) i))) (Existing noLiteral) → ImagePlaced image m (imagePlace k i) result work result′ work′ r
       → UnderWay (knownIn work) (netlistOf f) k (suc i) result′ work′ r × KeptOutside 0 imagesEnd work work′
   row-done image result′ work′ r R e I =
-      let few = O .accepted .small in
+      let few = O .rows .small in
       let y = rowImage (knownIn work i k) k (imagesIn work (k - 1) (length (netlistOf f))) (imagesIn work k i) (rowAt (netlistOf f) i) in
-      let q : image ≡ imageCode y = e ∙ kind-known (readFields f i .kind) (imageCode y) (Existing noLiteral) (O .file .known i ib) in (
+      let q : image ≡ imageCode y = e ∙ kind-known (readFields f i .kind) (imageCode y) (Existing noLiteral) (O .known i ib) in (
         row-again (knownIn work) (netlistOf f) k i result work m U image result′ work′ r q R kb ib few row-fits I,
         kept-wider 0 imagesEnd (literal-frame image m (imagePlace k i) r result work result′ work′ I) (omega arith) (omega arith),
       )

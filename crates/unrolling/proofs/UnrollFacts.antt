@@ -15,7 +15,7 @@ use Rattle.ternary.specs.Ternary.{Ternary, lo, hi, X}
 use Rattle.netlist.specs.Limits.{mostFoldedRows, mostPhases, mostOriginalRows}
 use Rattle.netlist.specs.Rows.{Row, constant, input, register, andGate, xorGate, muxGate, output, rowAt, kindOf, phaseOf, hasName, isRegister}
 use Rattle.netlist.proofs.RowLaws.{each-append, each-one}
-use Rattle.netlist.specs.WellFormed.{EachRow, NextBelow, AcceptedRows}
+use Rattle.netlist.specs.WellFormed.{EachRow, NextBelow, FoldableRows}
 use Rattle.abstraction.specs.GateMaking.{Image, Unrolling}
 use Rattle.abstraction.specs.Unrolling.{registerImage, rowImage, imageAt, patchNext, phaseOutput, unrollPhase, unrollPhases, phaseOutputs, unrolledNetlist}
 use Rattle.abstraction.proofs.BuilderLaws.{ImageOver, Added, none, one, add-rows, added-length}
@@ -73,15 +73,15 @@ module _ (clock : ℕ → ℕ → Ternary) (rows : List Row) where
       let q = unrollPhase clock rows k base previous n in
       omega (arith, phase-adds k base previous n, added-length (add-rows q (imageAt clock rows k previous q n)) .1)
 
-  module _ (A : AcceptedRows rows) where
+  module _ (A : FoldableRows rows) where
     some-row : 0 < length rows
-    some-row = omega (arith, A .has-output .4)
+    some-row = omega (arith, A .checked .has-output .4)
 
     netlist-length : (N : ℕ) → length (unrolledNetlist clock rows N) ≤ 1 + N * (length rows - 1)
     netlist-length N =
         let s = some-row in
         let n : suc (length rows - 1) ≡ length rows = omega arith in
-        let t = subst (λ (z : ℕ). total rows makes z + total rows gives z ≤ length rows - 1) n (total-one rows (A .constant-first) (length rows - 1)) in
+        let t = subst (λ (z : ℕ). total rows makes z + total rows gives z ≤ length rows - 1) n (total-one rows (A .checked .constant-first) (length rows - 1)) in
         omega (arith, whole-bound rows clock N, mul-le-mul (le-refl N) t)
 
     pub netlist-few : (N : ℕ) → N ≤ mostPhases → length (unrolledNetlist clock rows N) < mostFoldedRows
@@ -134,12 +134,12 @@ pub record NewRegisters (rows : List Row) (k n : ℕ) (made : List Row) : Type 0
   pub late : (j : ℕ) → j < length made → length rows ≤ j → kindOf (rowAt made j) ≡ 2 → ⊥
   pub few : k ≡ 0 → length made ≤ 1 + (n - 1)
 
-module _ (rows : List Row) (A : AcceptedRows rows) where
+module _ (rows : List Row) (A : FoldableRows rows) where
   registers-step : (k n : ℕ) {made : List Row} {i : Image} {made′ : List Row} → n < length rows → Added made i made′ → ImageOver (length made) k (rowAt rows n) i → NewRegisters rows k n made → NewRegisters rows k (suc n) made′
   registers-step k n h none o w = record { nexts = w .nexts; late = w .late; few = λ e. omega (arith, w .few e) }
-  registers-step k zero {made} h (one {r} {b}) o w = absurd (omega (arith, o .0 .solid, o .0 .kind, ap kindOf (A .constant-first)))
+  registers-step k zero {made} h (one {r} {b}) o w = absurd (omega (arith, o .0 .solid, o .0 .kind, ap kindOf (A .checked .constant-first)))
   registers-step k (suc n) {made} h (one {r} {b}) o w = record {
-    nexts = each-append (NextBelow (length rows)) made (r ∷ []) (w .nexts) (each-one (NextBelow (length rows)) r (next-new (length rows) (rowAt rows (suc n)) r (o .0 .same) (A .formed .nexts (suc n) h)));
+    nexts = each-append (NextBelow (length rows)) made (r ∷ []) (w .nexts) (each-one (NextBelow (length rows)) r (next-new (length rows) (rowAt rows (suc n)) r (o .0 .same) (A .checked .nexts (suc n) h)));
     late = λ j l d e.
         last-or j (length made) (omega (arith, length-append made (r ∷ [])))
         (λ q. w .late j q d (rw (List·getD-append made (r ∷ []) constant j q) at e))
@@ -153,5 +153,5 @@ module _ (rows : List Row) (A : AcceptedRows rows) where
   pub new-registers : (clock : ℕ → ℕ → Ternary) (k : ℕ) → NewRegisters rows k 0 (unrollPhases clock rows k .made)
   new-registers clock =
       unroll-keeps clock rows (NewRegisters rows) (λ k n made i made′ b a o w. registers-step k n b a o w)
-      (record { nexts = each-one (NextBelow (length rows)) constant tt; late = λ j l d e. absurd (omega (arith, A .has-output .4)); few = λ e. omega arith })
+      (record { nexts = each-one (NextBelow (length rows)) constant tt; late = λ j l d e. absurd (omega (arith, A .checked .has-output .4)); few = λ e. omega arith })
       (λ k made w. record { nexts = w .nexts; late = w .late; few = λ e. absurd (omega arith) })

@@ -13,13 +13,15 @@ use Rattle.ternary.specs.Ternary.{Ternary}
 use Rattle.netlist.specs.Limits.{mostFoldedRows, mostPhases}
 use Rattle.netlist.specs.Rows.{Row, constant, rowAt}
 use Rattle.netlist.specs.FileFormat.{rowOffset, rowBytes, netlistOf}
+use Rattle.netlist.specs.WellFormed.{FoldableRows}
 use Rattle.abstraction.specs.Unrolling.{patchNext, phaseOutput, unrollPhase, unrollPhases, phaseOutputs, unrolledNetlist}
 use Rattle.blockfile.specs.RowsStand.{RowsStand}
-use Rattle.unrolling.specs.UnrollMap.{Original, imagesIn, UnderWay, RowStands, NextFits, NextsPatched, Appended, outputsIn}
+use Rattle.blockfile.specs.Ready.{Ready}
+use Rattle.unrolling.specs.UnrollMap.{imagesIn, UnderWay, RowStands, NextFits, NextsPatched, Appended, outputsIn}
 use Rattle.unrolling.proofs.UnrollFacts.{netlist-clock, netlist-few, new-registers}
 use Rattle.unrolling.proofs.PatchLaws.{next-fits, patch-other}
 
-module _ (clock : ℕ → ℕ → Ternary) (f : List ℕ) (N : ℕ) (result work : List ℕ) (m : ℕ) (O : Original f) (a : 1 ≤ N) (b : N ≤ mostPhases) (U : UnderWay clock (netlistOf f) N 0 result work m) where
+module _ (clock : ℕ → ℕ → Ternary) (f : List ℕ) (N : ℕ) (result work : List ℕ) (m : ℕ) (O : Ready FoldableRows f (length (netlistOf f))) (a : 1 ≤ N) (b : N ≤ mostPhases) (U : UnderWay clock (netlistOf f) N 0 result work m) where
   abbrev rows : List Row
   rows = netlistOf f
 
@@ -56,7 +58,7 @@ module _ (clock : ℕ → ℕ → Ternary) (f : List ℕ) (N : ℕ) (result work
 
   -- What the two later steps ask.
   pub outputs-fit : m + length (joinBelow N (outputsIn rows work)) ≤ mostFoldedRows
-  outputs-fit = omega (arith, whole-length, netlist-few clock rows (O .accepted) N b)
+  outputs-fit = omega (arith, whole-length, netlist-few clock rows (O .rows) N b)
 
   pub made-fit : m ≤ mostFoldedRows
   made-fit = let h = outputs-fit in omega arith
@@ -64,16 +66,16 @@ module _ (clock : ℕ → ℕ → Ternary) (f : List ℕ) (N : ℕ) (result work
   pub nexts-fit : (j : ℕ) → j < m → NextFits j result
   nexts-fit j h =
       let l : j < length made = omega (arith, counted) in
-      next-fits (length rows) j (rowAt made j) result (O .accepted .small) (new-registers rows (O .accepted) clock N .nexts j l) (λ d k. stands j d l k)
+      next-fits (length rows) j (rowAt made j) result (O .rows .small) (new-registers rows (O .rows) clock N .nexts j l) (λ d k. stands j d l k)
 
   module _ (n : ℕ) (e : n ≡ min m (length rows)) (result′ : List ℕ) (P : NextsPatched work (N - 1) 0 n result result′) where
     patched : (j : ℕ) → j < length made → RowStands (patchNext images (rowAt made j)) j result′
     patched j l = elim (decLt j n) [
       | yes h ↦
           subst (λ (z : List ℕ). RowStands (patchNext z (rowAt made j)) j result′) images-last
-          (P .patched (length rows) (O .accepted .small) j (rowAt made j) (omega arith) h (new-registers rows (O .accepted) clock N .nexts j l) (λ d k. stands j d l k))
+          (P .patched (length rows) (O .rows .small) j (rowAt made j) (omega arith) h (new-registers rows (O .rows) clock N .nexts j l) (λ d k. stands j d l k))
       | no h ↦
-          (let q = patch-other images (rowAt made j) (new-registers rows (O .accepted) clock N .late j l (omega (arith, counted))) in
+          (let q = patch-other images (rowAt made j) (new-registers rows (O .rows) clock N .late j l (omega (arith, counted))) in
           subst (λ (z : Row). RowStands z j result′) (sym q) (λ d k. P .kept .after (rowOffset j + d) (omega arith) ∙ stands j d l k))
     ]
 

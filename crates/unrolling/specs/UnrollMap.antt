@@ -1,5 +1,5 @@
 -- The unrolling in memory: the rows made stand in `result`, the image literals in `work`.
--- Interface: Original (what is asked of the file), imagesEnd; the rest is between the steps.
+-- Interface: imagesEnd; the rest is between the steps.
 -- Assumes nothing.
 use Prim.Native.Nat.{ℕ, suc, _+_, _*_, _<_, _≤_, _/_, _^_}
 use mathlib.Core.Path.{_≡_}
@@ -13,7 +13,7 @@ use Rattle.ternary.specs.Ternary.{Ternary}
 use Rattle.netlist.specs.Limits.{mostPhases, mostOriginalRows, foldResultBytes, foldWorkBytes}
 use Rattle.netlist.specs.Rows.{Row, RowFields, rowAt}
 use Rattle.netlist.specs.FileFormat.{rowOffset, netlistOf, fieldBytes, rowBytes}
-use Rattle.netlist.specs.WellFormed.{NextBelow, AcceptedRows}
+use Rattle.netlist.specs.WellFormed.{NextBelow, FoldableRows}
 use Rattle.abstraction.specs.GateMaking.{Unrolling}
 use Rattle.abstraction.specs.Unrolling.{patchNext, phaseOutput, unrollPhase, unrollPhases}
 use Rattle.blockfile.specs.RowsStand.{RowsStand}
@@ -21,11 +21,6 @@ use Rattle.blockfile.specs.Ready.{Ready}
 use Rattle.gates.specs.declared.MadeRow.{MadeRow}
 use Rattle.gates.specs.declared.MadeImage.{MadeImage}
 use Rattle.gates.specs.declared.MadeImage.the-variants.{Existing, NewRow}
-
--- A file whose rows questions 6 to 13 accept; each row is read at its place.
-pub record Original (f : List ℕ) : Type 0 where
-  pub file : Ready f (length (netlistOf f))
-  pub accepted : AcceptedRows (netlistOf f)
 
 -- The lent memory is large enough.
 pub record Room (result work : List ℕ) : Type 0 where

@@ -10,29 +10,16 @@ ghost use Rattle.ternary.specs.Ternary.{Ternary, X};
 ghost use Rattle.netlist.specs.Limits.{mostFoldedRows, mostPhases, mostOriginalRows, foldResultBytes, foldWorkBytes};
 ghost use Rattle.netlist.specs.Rows.{rowAt, input};
 ghost use Rattle.netlist.specs.FileFormat.{rowOffset, readFields, fieldBytes, netlistOf};
+ghost use Rattle.netlist.specs.WellFormed.{FoldableRows};
 ghost use Rattle.abstraction.specs.GateMaking.{newRow};
 ghost use Rattle.abstraction.specs.Unrolling.{imageLiteral, registerImage, rowImage, unrolledNetlist};
 ghost use Rattle.blockfile.specs.RowCode.{Small, ifKnown};
 ghost use Rattle.blockfile.specs.RowsStand.{RowsStand};
+ghost use Rattle.blockfile.specs.Ready.{Ready};
 ghost use Rattle.gates.specs.declared.MadeImage.the-variants.{Existing};
 ghost use Rattle.gates.specs.ImageCode.{imageCode};
 ghost use Rattle.ternary_step.specs.WorkMap.{knownIn};
-ghost use Rattle.unrolling.specs.UnrollMap.{
-  Original,
-  Room,
-  imagePlace,
-  imagesEnd,
-  imagesIn,
-  noLiteral,
-  fieldsMade,
-  ImagePlaced,
-  UnderWay,
-  NextFits,
-  NextsPatched,
-  Appended,
-  outputAt,
-  outputsIn,
-};
+ghost use Rattle.unrolling.specs.UnrollMap.{Room, imagePlace, imagesEnd, imagesIn, noLiteral, fieldsMade, ImagePlaced, UnderWay, NextFits, NextsPatched, Appended, outputAt, outputsIn};
 use blockfile::Fields;
 use gates::MadeImage;
 use gates::MadeRow;
@@ -153,7 +140,7 @@ fn register_image(work: &[u8], x: Fields, k: usize, i: usize) -> MadeImage
 
 // The image of row i in phase k, worked out; one that names no row if the kind is unknown.
 fn row_image(file: &[u8], work: &[u8], k: usize, i: usize) -> MadeImage
-    requires { ⌜ Original (now file) × (i < length (netlistOf (now file))) ⌝ }
+    requires { ⌜ Ready FoldableRows (now file) (length (netlistOf (now file))) × (i < length (netlistOf (now file))) ⌝ }
     requires { ⌜ (k < mostPhases) × (foldWorkBytes ≤ length (now work)) ⌝ }
     ensures { λ r. ⌜ r ≡ ifKnown (readFields (now (file .entry)) i .kind) (imageCode (rowImage (knownIn (now (work .entry)) i k) k (imagesIn (now (work .entry)) (k - 1) (length (netlistOf (now (file .entry))))) (imagesIn (now (work .entry)) k i) (rowAt (netlistOf (now (file .entry))) i))) (Existing noLiteral) ⌝ }
 {
@@ -212,7 +199,7 @@ fn unroll_row(
     i: usize,
     m: usize,
 ) -> usize
-    requires { ⌜ Original (now file) × (i < length (netlistOf (now file))) × (k < mostPhases) ⌝ }
+    requires { ⌜ Ready FoldableRows (now file) (length (netlistOf (now file))) × (i < length (netlistOf (now file))) × (k < mostPhases) ⌝ }
     requires { ⌜ Room (now result) (now work) ⌝ }
     requires { ⌜ UnderWay (knownIn (now work)) (netlistOf (now file)) k i (now result) (now work) m ⌝ }
     ensures { λ r. ⌜ UnderWay (knownIn (now (work .entry))) (netlistOf (now (file .entry))) k (suc i) (now (result .exit)) (now (work .exit)) r × KeptOutside 0 imagesEnd (now (work .entry)) (now (work .exit)) ⌝ }
@@ -230,7 +217,7 @@ fn unroll_phase(
     k: usize,
     count: usize,
 ) -> usize
-    requires { ⌜ Original (now file) × (rows ≡ length (netlistOf (now file))) × (k < mostPhases) ⌝ }
+    requires { ⌜ Ready FoldableRows (now file) (length (netlistOf (now file))) × (rows ≡ length (netlistOf (now file))) × (k < mostPhases) ⌝ }
     requires { ⌜ Room (now result) (now work) ⌝ }
     requires { ⌜ UnderWay (knownIn (now work)) (netlistOf (now file)) k 0 (now result) (now work) count ⌝ }
     ensures { λ r. ⌜ UnderWay (knownIn (now (work .entry))) (netlistOf (now (file .entry))) (suc k) 0 (now (result .exit)) (now (work .exit)) r × KeptOutside 0 imagesEnd (now (work .entry)) (now (work .exit)) ⌝ }
@@ -252,7 +239,7 @@ fn unroll_phases(
     result: &mut [u8],
     work: &mut [u8],
 ) -> usize
-    requires { ⌜ Original (now file) × (rows ≡ length (netlistOf (now file))) × (phases ≤ mostPhases) ⌝ }
+    requires { ⌜ Ready FoldableRows (now file) (length (netlistOf (now file))) × (rows ≡ length (netlistOf (now file))) × (phases ≤ mostPhases) ⌝ }
     requires { ⌜ Room (now result) (now work) ⌝ }
     ensures { λ r. ⌜ UnderWay (knownIn (now (work .entry))) (netlistOf (now (file .entry))) phases 0 (now (result .exit)) (now (work .exit)) r × KeptOutside 0 imagesEnd (now (work .entry)) (now (work .exit)) ⌝ }
 {
@@ -304,7 +291,7 @@ fn patch_rows(result: &mut [u8], work: &[u8], k: usize, n: usize)
 
 // The output of row i in phase k, if the row is one, behind the m rows in `result`; answers the row count.
 fn output_row(file: &[u8], result: &mut [u8], work: &[u8], k: usize, i: usize, m: usize) -> usize
-    requires { ⌜ Original (now file) × (i < length (netlistOf (now file))) × (k < mostPhases) ⌝ }
+    requires { ⌜ Ready FoldableRows (now file) (length (netlistOf (now file))) × (i < length (netlistOf (now file))) × (k < mostPhases) ⌝ }
     requires { ⌜ Room (now result) (now work) ⌝ }
     requires { ⌜ m + length (outputAt (netlistOf (now file)) (now work) k i) ≤ mostFoldedRows ⌝ }
     ensures { λ r. ⌜ Appended (outputAt (netlistOf (now (file .entry))) (now (work .entry)) k i) (now (result .entry)) (now (result .exit)) m r ⌝ }
@@ -338,7 +325,7 @@ fn output_phase(
     k: usize,
     count: usize,
 ) -> usize
-    requires { ⌜ Original (now file) × (rows ≡ length (netlistOf (now file))) × (k < mostPhases) ⌝ }
+    requires { ⌜ Ready FoldableRows (now file) (length (netlistOf (now file))) × (rows ≡ length (netlistOf (now file))) × (k < mostPhases) ⌝ }
     requires { ⌜ Room (now result) (now work) ⌝ }
     requires { ⌜ count + length (outputsIn (netlistOf (now file)) (now work) k) ≤ mostFoldedRows ⌝ }
     ensures { λ r. ⌜ Appended (outputsIn (netlistOf (now (file .entry))) (now (work .entry)) k) (now (result .entry)) (now (result .exit)) count r ⌝ }
@@ -361,7 +348,7 @@ fn output_phases(
     work: &[u8],
     count: usize,
 ) -> usize
-    requires { ⌜ Original (now file) × (rows ≡ length (netlistOf (now file))) × (phases ≤ mostPhases) ⌝ }
+    requires { ⌜ Ready FoldableRows (now file) (length (netlistOf (now file))) × (rows ≡ length (netlistOf (now file))) × (phases ≤ mostPhases) ⌝ }
     requires { ⌜ Room (now result) (now work) ⌝ }
     requires { ⌜ count + length (joinBelow phases (outputsIn (netlistOf (now file)) (now work))) ≤ mostFoldedRows ⌝ }
     ensures { λ r. ⌜ Appended (joinBelow phases (outputsIn (netlistOf (now (file .entry))) (now (work .entry)))) (now (result .entry)) (now (result .exit)) count r ⌝ }
@@ -383,7 +370,7 @@ fn smaller(a: usize, b: usize) -> usize
 
 // The unrolled netlist of `phases` phases; answers its row count. Registers are made in phase 0 only, so none stands behind the first `rows` rows.
 pub fn unroll(file: &[u8], rows: usize, phases: usize, result: &mut [u8], work: &mut [u8]) -> usize
-    requires { ⌜ Original (now file) × (rows ≡ length (netlistOf (now file))) × (1 ≤ phases) × (phases ≤ mostPhases) ⌝ }
+    requires { ⌜ Ready FoldableRows (now file) (length (netlistOf (now file))) × (rows ≡ length (netlistOf (now file))) × (1 ≤ phases) × (phases ≤ mostPhases) ⌝ }
     requires { ⌜ Room (now result) (now work) ⌝ }
     ensures { λ r. ⌜ ((clock : ℕ → ℕ → Ternary) → ((i k : ℕ) → i < rows → k < phases → knownIn (now (work .entry)) i k ≡ clock i k) → (r ≡ length (unrolledNetlist clock (netlistOf (now (file .entry))) phases)) × RowsStand (unrolledNetlist clock (netlistOf (now (file .entry))) phases) (now (result .exit))) ⌝ }
     ensures { λ _. ⌜ KeptOutside 0 imagesEnd (now (work .entry)) (now (work .exit)) ⌝ }

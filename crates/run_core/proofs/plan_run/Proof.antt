@@ -1,7 +1,7 @@
 -- `run_core::plan_run` asks Check's questions, then 17 to 20.
 -- Assumes nothing.
 use Rattle.blockfile.specs.CountCode.{countsIn}
-use Rattle.blockfile.proofs.ReadyLaws.{ready-by}
+use Rattle.blockfile.proofs.ReadyLaws.{rows-by}
 use Rattle.accept.proofs.RefusalLaws.{accepted-none}
 use Rattle.run_core.proofs.PlanLaws.{counts-few, planned-by, planned-refused}
 use borrow.Author.Needs.{needs}
@@ -12,7 +12,7 @@ row-count-requires : tie.Need-row-count-requires
 row-count-requires c κs = search accepted-none
 
 count-rows-requires : tie.Need-count-rows-requires
-count-rows-requires c κs = search (ready-by, accepted-none, needs)
+count-rows-requires c κs = search (rows-by, accepted-none, needs)
 
 plan-steps-requires : tie.Need-plan-steps-requires
 plan-steps-requires c κs = search counts-few

@@ -27,13 +27,13 @@ cast-p : tie.Need-cast-p
 cast-p c = omega (arith, (c .slice-known2 .given) (valuePlace (c .before .before .before .before .before .args .row)))
 
 clock-word-requires : tie.Need-clock-word-requires
-clock-word-requires c κs = word-asks (c .before .before .before .before .before .before .before .before .pre .1 .1 .1 .part) (row-within (c .before .before .before .before .before .before .before .before .pre .0)) (c .before .before .before .before .before .before .before .before .pre .1 .0) (c .before .before .before .before .before .before .before .before .pre .1 .1 .0) (sym (byte-used (c .before .before .before .before .before .before .before .before .pre .1 .1 .1 .part) (row-within (c .before .before .before .before .before .before .before .before .pre .0)) (c .before .before .before .before .before .before .before .before .pre .1 .0) (c .before .before .before .before .before .before .before .before .pre .1 .1 .0)) ∙ sym (c .before .before .is-used .ensures) ∙ (c .before .if1 .taken)) (c .before .before .before .before .before .before .before .before .pre .0 .ready .registers) (c .before .before .before .before .before .before .before .before .pre .0 .number) refl
+clock-word-requires c κs = word-asks (c .before .before .before .before .before .before .before .before .pre .1 .1 .1 .part) (row-within (c .before .before .before .before .before .before .before .before .pre .0)) (c .before .before .before .before .before .before .before .before .pre .1 .0) (c .before .before .before .before .before .before .before .before .pre .1 .1 .0) (sym (byte-used (c .before .before .before .before .before .before .before .before .pre .1 .1 .1 .part) (row-within (c .before .before .before .before .before .before .before .before .pre .0)) (c .before .before .before .before .before .before .before .before .pre .1 .0) (c .before .before .before .before .before .before .before .before .pre .1 .1 .0)) ∙ sym (c .before .before .is-used .ensures) ∙ (c .before .if1 .taken)) (c .before .before .before .before .before .before .before .before .pre .0 .ready .rows .registers) (c .before .before .before .before .before .before .before .before .pre .0 .number) refl
 
 put-known-requires : tie.Need-put-known-requires
 put-known-requires c κs = search row-small
 
 returns : tie.Need-returns
-returns c = (number-next (c .before .before .before .before .before .before .before .before .before .before .before .before .before .pre .0) (c .before .before .before .before .before .before .before .before .before .before .read-row .result) (c .before .before .before .before .before .before .before .before .before .before .read-row .ensures .0) (c .before .before .before .before .before .before .before .before .before .count-register .result) (c .before .before .before .before .before .before .before .before .before .count-register .ensures), known-more (c .before .before .before .before .before .before .before .before .before .before .before .before .before .pre .0) (c .before .before .before .before .before .before .before .before .before .before .before .before .before .pre .1 .1 .1) (c .before .before .put-known .last .0) ((c .before .before .put-known .ensures) ∙ ap (sets (c .before .before .before .before .before .before .before .before .before .before .before .before .before .args .work .now) (knownPlace (c .before .before .before .before .before .before .before .before .before .before .before .before .before .args .row))) (known-used (c .before .before .before .before .before .before .before .before .before .before .before .before .before .pre .1 .1 .1 .part) (row-within (c .before .before .before .before .before .before .before .before .before .before .before .before .before .pre .0)) (c .before .before .before .before .before .before .before .before .before .before .before .before .before .pre .1 .0) (c .before .before .before .before .before .before .before .before .before .before .before .before .before .pre .1 .1 .0) (sym (byte-used (c .before .before .before .before .before .before .before .before .before .before .before .before .before .pre .1 .1 .1 .part) (row-within (c .before .before .before .before .before .before .before .before .before .before .before .before .before .pre .0)) (c .before .before .before .before .before .before .before .before .before .before .before .before .before .pre .1 .0) (c .before .before .before .before .before .before .before .before .before .before .before .before .before .pre .1 .1 .0)) ∙ sym (c .before .before .before .before .before .before .before .is-used .ensures) ∙ (c .before .before .before .before .before .before .if1 .taken)) (c .before .before .before .before .before .before .before .before .before .before .before .before .before .pre .0 .ready .registers) (c .before .before .before .before .before .before .before .before .before .before .before .before .before .pre .0 .number) refl (c .before .before .before .before .clock-word .result) (c .before .before .before .before .clock-word .ensures))))
+returns c = (number-next (c .before .before .before .before .before .before .before .before .before .before .before .before .before .pre .0) (c .before .before .before .before .before .before .before .before .before .before .read-row .result) (c .before .before .before .before .before .before .before .before .before .before .read-row .ensures .0) (c .before .before .before .before .before .before .before .before .before .count-register .result) (c .before .before .before .before .before .before .before .before .before .count-register .ensures), known-more (c .before .before .before .before .before .before .before .before .before .before .before .before .before .pre .0) (c .before .before .before .before .before .before .before .before .before .before .before .before .before .pre .1 .1 .1) (c .before .before .put-known .last .0) ((c .before .before .put-known .ensures) ∙ ap (sets (c .before .before .before .before .before .before .before .before .before .before .before .before .before .args .work .now) (knownPlace (c .before .before .before .before .before .before .before .before .before .before .before .before .before .args .row))) (known-used (c .before .before .before .before .before .before .before .before .before .before .before .before .before .pre .1 .1 .1 .part) (row-within (c .before .before .before .before .before .before .before .before .before .before .before .before .before .pre .0)) (c .before .before .before .before .before .before .before .before .before .before .before .before .before .pre .1 .0) (c .before .before .before .before .before .before .before .before .before .before .before .before .before .pre .1 .1 .0) (sym (byte-used (c .before .before .before .before .before .before .before .before .before .before .before .before .before .pre .1 .1 .1 .part) (row-within (c .before .before .before .before .before .before .before .before .before .before .before .before .before .pre .0)) (c .before .before .before .before .before .before .before .before .before .before .before .before .before .pre .1 .0) (c .before .before .before .before .before .before .before .before .before .before .before .before .before .pre .1 .1 .0)) ∙ sym (c .before .before .before .before .before .before .before .is-used .ensures) ∙ (c .before .before .before .before .before .before .if1 .taken)) (c .before .before .before .before .before .before .before .before .before .before .before .before .before .pre .0 .ready .rows .registers) (c .before .before .before .before .before .before .before .before .before .before .before .before .before .pre .0 .number) refl (c .before .before .before .before .clock-word .result) (c .before .before .before .before .clock-word .ensures))))
 
 put-known-requires-2 : tie.Need-put-known-requires-2
 put-known-requires-2 c κs = search row-small

@@ -1,7 +1,7 @@
 -- `ask` meets its contract: Check's questions, then the others of the accepted file.
 -- Assumes nothing.
 use borrow.Author.Needs.{needs}
-use Rattle.blockfile.proofs.ReadyLaws.{ready-by}
+use Rattle.blockfile.proofs.ReadyLaws.{rows-by}
 use Rattle.accept.proofs.RefusalLaws.{accepted-none}
 use Rattle.fold_core.proofs.EarlyLaws.{file-no, original-asked}
 use Rattle.fold_core.proofs.early.ask.Statement.{statement}
@@ -11,7 +11,7 @@ row-count-requires : tie.Need-row-count-requires
 row-count-requires c κs = search accepted-none
 
 ask-original-requires : tie.Need-ask-original-requires
-ask-original-requires c κs = search (ready-by, accepted-none, needs)
+ask-original-requires c κs = search (rows-by, accepted-none, needs)
 
 returns : tie.Need-returns
 returns c = search original-asked

@@ -7,7 +7,7 @@ use Rattle.unrolling.proofs.unroll.row_image.Statement.{statement}
 use Rattle.unrolling.proofs.unroll.row_image.Tie as tie
 
 read-row-requires : tie.Need-read-row-requires
-read-row-requires c κs = (omega (arith, c .before .before .pre .0 .0 .accepted .small), c .before .before .pre .0 .0 .file .inside (c .before .before .args .i) (c .before .before .pre .0 .1))
+read-row-requires c κs = (omega (arith, c .before .before .pre .0 .0 .rows .small), c .before .before .pre .0 .0 .file .inside (c .before .before .args .i) (c .before .before .pre .0 .1))
 
 register-image-requires : tie.Need-register-image-requires
 register-image-requires c κs = search (needs, next-fits)

@@ -8,7 +8,7 @@ use Rattle.unrolling.proofs.unroll.unroll_row.Tie as tie
 place-image-requires : tie.Need-place-image-requires
 place-image-requires c κs =
     let s = c .before .before .before .before .before .before .before in
-    let few = s .pre .0 .0 .accepted .small in
+    let few = s .pre .0 .0 .rows .small in
     let fits = row-fits (s .args .file .now) (s .args .k) (s .args .i) (s .args .m) (s .args .result .now) (s .args .work .now) (s .pre .0 .0) (s .pre .0 .1) (s .pre .0 .2) (s .pre .1 .1) in
     search needs
 
