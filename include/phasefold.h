@@ -1,19 +1,44 @@
 /* phasefold: checks, counts, shows, folds and runs netlist files.
  *
- * A slice is a pointer and its length, and the pointer is not null, even if the length is 0. All
- * memory is lent by the caller: nothing is allocated, and nothing is kept after the return. A part
- * that is written, `result`, `work` or `clocks`, overlaps no other part of the same call.
+ * A slice is a pointer and its length. The pointer is not null, even if the length is 0: nothing is
+ * promised of a null pointer. All memory is lent by the caller: nothing is allocated, and nothing is
+ * kept after the return. A part that is written, `result`, `work` or `clocks`, overlaps no other part
+ * of the same call. This is not tested: with parts that overlap, pf_fold has left a wrong netlist and
+ * answered number 0.
  *
  * Every answer starts with a refusal: the number of the question whose answer was no, and its place
  * (a block for numbers 2 to 5, a row for 6 to 9 and 13, else 0). Both are 0 on success; the answer's
  * other fields are 0 on a refusal. A refusal changes no lent memory but `work`, which is all zero
  * after every return.
+ *
+ * A call needs about 144 KiB of stack (measured by `bench/run --stack`; no theorem bounds it). Several
+ * threads may call at the same time, as long as nobody else uses what a call writes. The static
+ * library is for x86-64 Linux. docs/example.c is a whole program.
  */
 #ifndef PHASEFOLD_H
 #define PHASEFOLD_H
 
 #include <stddef.h>
 #include <stdint.h>
+
+/* Another number for every change of this interface. */
+#define PF_VERSION 1
+
+/* A block's bytes and rows, and the bytes of the longest file. */
+#define PF_BLOCK_SIZE 512
+#define PF_BLOCK_ROWS 63
+#define PF_FILE_MAX 65536
+
+/* The bytes of a file of so many rows, as of the folded file from `after`. */
+#define PF_FILE_SIZE(rows) ((size_t)PF_BLOCK_SIZE * (((size_t)(rows) + PF_BLOCK_ROWS - 1) / PF_BLOCK_ROWS))
+
+/* What pf_fold needs, at least: bytes of `result`, bytes of `work`, entries of `clocks`. */
+#define PF_FOLD_RESULT 65536
+#define PF_FOLD_WORK 49152
+#define PF_FOLD_CLOCKS 256
+
+/* What pf_run needs, at least: bytes of `work`. */
+#define PF_RUN_WORK 16384
 
 #ifdef __cplusplus
 extern "C" {
@@ -45,16 +70,17 @@ pf_counts pf_count(const uint8_t *file, size_t file_len);
 pf_shown pf_show(const uint8_t *file, size_t file_len, uint32_t block);
 
 /* Folds a file into as many phases as `wish` says, 1 to 8, or into the best number, with 0.
- * `result` then starts with the folded file and is zero after it; the first `used` entries of
- * `clocks` are set, in row order, and the others are unchanged. At least 65536 bytes of `result`,
- * 49152 of `work` and 256 entries of `clocks` are needed. Refusals 1 to 16. */
+ * `result` then starts with the folded file, PF_FILE_SIZE(after) bytes, and is zero after it; the first
+ * `used` entries of `clocks` are set, in row order, and the others are unchanged. At least
+ * PF_FOLD_RESULT bytes of `result`, PF_FOLD_WORK of `work` and PF_FOLD_CLOCKS entries of `clocks` are
+ * needed. Refusals 1 to 16. */
 pf_folded pf_fold(const uint8_t *file, size_t file_len, uint32_t wish, uint8_t *result, size_t result_len,
                   uint8_t *work, size_t work_len, pf_clock *clocks, size_t clocks_len);
 
 /* Runs a file for `steps` steps, at most 4096. `choices` has a byte, 0 or 1, for each register that
  * resets to X; `inputs` has one for each input, step after step; `result` gets one for each output,
- * step after step, all in row order. Later bytes of `result` are unchanged. At least 16384 bytes of
- * `work` are needed. Refusals 1 to 10 and 17 to 20. */
+ * step after step, all in row order. Later bytes of `result` are unchanged. At least PF_RUN_WORK bytes
+ * of `work` are needed. Refusals 1 to 10 and 17 to 20. */
 pf_refusal pf_run(const uint8_t *file, size_t file_len, uint32_t steps, const uint8_t *choices, size_t choices_len,
                   const uint8_t *inputs, size_t inputs_len, uint8_t *result, size_t result_len, uint8_t *work, size_t work_len);
 

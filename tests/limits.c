@@ -1,0 +1,75 @@
+/* limits FILE: the numbers of phasefold.h are those at which the library refuses. Prints each that is not. */
+#include <stdio.h>
+#include <string.h>
+
+#include "phasefold.h"
+
+static uint8_t file[PF_FILE_MAX + PF_BLOCK_SIZE];
+static uint8_t result[PF_FOLD_RESULT];
+static uint8_t work[PF_FOLD_WORK];
+static pf_clock clocks[PF_FOLD_CLOCKS];
+static int wrong;
+
+static void expect(const char *name, size_t seen, size_t expected)
+{
+    if (seen != expected) {
+        printf("%s: %zu, expected %zu\n", name, seen, expected);
+        wrong = 1;
+    }
+}
+
+static size_t fold(size_t size, size_t result_size, size_t work_size, size_t entries)
+{
+    return pf_fold(file, size, 0, result, result_size, work, work_size, clocks, entries).number;
+}
+
+static size_t run(size_t size, size_t work_size)
+{
+    uint8_t none[1] = {0};
+    return pf_run(file, size, 0, none, 0, none, 0, result, sizeof result, work, work_size).number;
+}
+
+static void fill(uint8_t value)
+{
+    memset(result, value, sizeof result);
+    memset(clocks, value, sizeof clocks);
+}
+
+/* What a fold leaves: zeros after the file, which is accepted, and the clock entries after `used` as they were. */
+static void expect_fold(size_t size)
+{
+    fill(0xa5);
+    pf_folded folded = pf_fold(file, size, 0, result, sizeof result, work, sizeof work, clocks, PF_FOLD_CLOCKS);
+    size_t length = PF_FILE_SIZE(folded.after), zeros = 0, kept = 0;
+    for (size_t k = length; k < sizeof result; k++) zeros += result[k] == 0;
+    for (size_t k = folded.used; k < PF_FOLD_CLOCKS; k++) kept += clocks[k].ones == 0xa5a5a5a5;
+    expect("the folded file", pf_check(result, length).number, 0);
+    expect("its rows", pf_count(result, length).nodes + pf_count(result, length).outputs, folded.after);
+    expect("zeros after it", zeros, sizeof result - length);
+    expect("clock entries that stay", kept, PF_FOLD_CLOCKS - folded.used);
+}
+
+int main(int count, char **words)
+{
+    FILE *from = count == 2 ? fopen(words[1], "rb") : NULL;
+    if (!from) return 2;
+    size_t size = fread(file, 1, sizeof file, from);
+    fclose(from);
+
+    expect("version", PF_VERSION, 1);
+    expect("a file of 1 row", PF_FILE_SIZE(1), PF_BLOCK_SIZE);
+    expect("a file of 63 rows", PF_FILE_SIZE(PF_BLOCK_ROWS), PF_BLOCK_SIZE);
+    expect("a file of 64 rows", PF_FILE_SIZE(PF_BLOCK_ROWS + 1), 2 * PF_BLOCK_SIZE);
+    expect("a file of 8064 rows", PF_FILE_SIZE(8064), PF_FILE_MAX);
+    expect("the longest file", pf_check(file, PF_FILE_MAX).number, 3);
+    expect("a longer file", pf_check(file, PF_FILE_MAX + PF_BLOCK_SIZE).number, 1);
+    expect("fold", fold(size, PF_FOLD_RESULT, PF_FOLD_WORK, PF_FOLD_CLOCKS), 0);
+    expect("a short result", fold(size, PF_FOLD_RESULT - 1, PF_FOLD_WORK, PF_FOLD_CLOCKS), 15);
+    expect("short work", fold(size, PF_FOLD_RESULT, PF_FOLD_WORK - 1, PF_FOLD_CLOCKS), 15);
+    expect("few clocks", fold(size, PF_FOLD_RESULT, PF_FOLD_WORK, PF_FOLD_CLOCKS - 1), 15);
+    expect("run", run(size, PF_RUN_WORK), 0);
+    expect("short work of run", run(size, PF_RUN_WORK - 1), 20);
+    expect("show", pf_show(file, size, 0).size, PF_BLOCK_ROWS * 8);
+    expect_fold(size);
+    return wrong;
+}
