@@ -130,8 +130,8 @@ module _ (w : ℕ → Bool) (w0 : w 0 ≡ false) where
   true-literal : (a : ℕ) → eqb a 1 ≡ true → literalValue boolLogic w a ≡ true
   true-literal a q = equal-literals a 1 q ∙ literal-one
 
-  inverse-literals : (a b : ℕ) → eqb a (complement b) ≡ true → literalValue boolLogic w a ≡ not (literalValue boolLogic w b)
-  inverse-literals a b q = equal-literals a (complement b) q ∙ literal-complement b
+  complement-literals : (a b : ℕ) → eqb a (complement b) ≡ true → literalValue boolLogic w a ≡ not (literalValue boolLogic w b)
+  complement-literals a b q = equal-literals a (complement b) q ∙ literal-complement b
 
   module _ (h : Row → Bool) (i : ℕ → ℕ → Bool) where
     -- What is made has the value v.
@@ -146,7 +146,7 @@ module _ (w : ℕ → Bool) (w0 : w 0 ≡ false) where
         cond-case P (eqb a 0 || eqb b 0 || eqb a (complement b)) _ _
         (λ e. or-case (eqb a 0 || eqb b 0) (eqb a (complement b)) e
         (λ e′. or-case (eqb a 0) (eqb b 0) e′ (λ q. rw (false-literal a q, w0)) (λ q. rw (false-literal b q, w0) (sym (and-false (literalValue boolLogic w a)))))
-        (λ q. rw (inverse-literals a b q, w0) (sym (and-not (literalValue boolLogic w b)))))
+        (λ q. rw (complement-literals a b q, w0) (sym (and-not (literalValue boolLogic w b)))))
         λ n. cond-case P (eqb a 1) _ _ (λ q. rw (true-literal a q))
         λ n. cond-case P (eqb b 1) _ _ (λ q. rw (true-literal b q) (sym (and-one (literalValue boolLogic w a))))
         λ n. cond-case P (eqb a b) _ _ (λ q. rw (equal-literals a b q) (sym (and-same (literalValue boolLogic w b))))
@@ -157,7 +157,7 @@ module _ (w : ℕ → Bool) (w0 : w 0 ≡ false) where
     xor-makes a b =
         let P = Makes (boolXor (literalValue boolLogic w a) (literalValue boolLogic w b)) in
         cond-case P (eqb a b) _ _ (λ q. rw (equal-literals a b q, w0) (sym (xor-same (literalValue boolLogic w b))))
-        λ n. cond-case P (eqb a (complement b)) _ _ (λ q. rw (inverse-literals a b q) (literal-one ∙ sym (xor-not (literalValue boolLogic w b))))
+        λ n. cond-case P (eqb a (complement b)) _ _ (λ q. rw (complement-literals a b q) (literal-one ∙ sym (xor-not (literalValue boolLogic w b))))
         λ n. cond-case P (eqb a 0) _ _ (λ q. rw (false-literal a q))
         λ n. cond-case P (eqb b 0) _ _ (λ q. rw (false-literal b q) (sym (xor-false (literalValue boolLogic w a))))
         λ n. cond-case P (eqb a 1) _ _ (λ q. rw (true-literal a q) (literal-complement b))

@@ -9,14 +9,14 @@ use lib.ListN.{length}
 use lib.Dec.{eqb}
 use Rattle.netlist.specs.Rows.{Row, andGate, xorGate, muxGate}
 
--- The inverse of a literal, and the literal without inversion.
+-- The complement of a literal, and the literal without one.
 abbrev pub complement : ℕ → ℕ
 complement l = 2 * (l / 2) + (1 - l % 2)
 
 abbrev pub positive : ℕ → ℕ
 positive l = 2 * (l / 2)
 
--- An image: a literal that is there, or a new row, inverted if the number is 1.
+-- An image: a literal that is there, or a new row, complemented if the number is 1.
 pub data Image : Type 0 where
   existing : ℕ → Image
   newRow : Row → ℕ → Image

@@ -11,7 +11,7 @@ use Rattle.ternary.specs.Ternary.{Ternary, lo, hi, X}
 use Rattle.netlist.specs.Rows.{Row, constant, input, register, andGate, xorGate, muxGate, output, rowAt, onRegister, onOutput}
 use Rattle.abstraction.specs.GateMaking.{complement, Image, existing, newRow, makeAnd, makeXor, makeMux, Unrolling, addImage}
 
--- l, inverted if the number is not 0.
+-- l, complemented if the number is not 0.
 abbrev pub complementBy : ℕ → ℕ → ℕ
 complementBy zero l = l
 complementBy (suc k) l = complement l

@@ -1,6 +1,4 @@
--- Laws of the refusals, of the rows of a file, of the marks, of the row check, and of names compared.
+-- Laws of the refusals, of a file whose blocks are right, and of the row check.
 pub mod RefusalLaws
-pub mod AcceptedRows
-pub mod MarkLaws
+pub mod BlockLaws
 pub mod RowCheckLaws
-pub mod NameLaws

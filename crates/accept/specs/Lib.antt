@@ -1,4 +1,3 @@
--- What the answers stand for, what a row's tests say, and the marks of names that are taken.
+-- What the answers stand for, and the parts of Check.
 pub mod Refusals
-pub mod RowChecks
-pub mod Marks
+pub mod Parts

@@ -1,9 +1,15 @@
--- The answers as the scope paper's refusals: number and place.
+-- The answers as the scope paper's refusals, number and place, and what an acceptance says.
+-- Interface: acceptRefusal, Answered, Checked.
 -- Assumes nothing.
-use Prim.Native.Nat.{ℕ, zero, suc}
+use Prim.Native.Nat.{ℕ}
+use mathlib.Core.Path.{_≡_}
 use mathlib.Core.List.{List}
-use Rattle.netlist.specs.FileFormat.{blockCount, blockAt}
-use Rattle.questions.specs.Questions.{Refusal, noRefusal, itemQuestions, blockQuestions}
+use lib.ListN.{length}
+use Rattle.netlist.specs.Rows.{Row}
+use Rattle.netlist.specs.FileFormat.{netlistOf}
+use Rattle.questions.specs.Questions.{Refusal, noRefusal, fileRefusal, countsOf}
+use Rattle.blockfile.specs.CountCode.{countsIn}
+use Rattle.blockfile.specs.declared.count.Counts as code
 use Rattle.accept.specs.declared.FileRefusal.{FileRefusal}
 use Rattle.accept.specs.declared.FileRefusal.the-variants.{Length, Sum, Header, RowCount, Unused, Kind, Field, Label, Literal, NoOutput}
 use Rattle.accept.specs.declared.Acceptance.{Acceptance}
@@ -39,19 +45,15 @@ abbrev pub refusalIn : FileRefusal → Refusal
 refusalIn r = record { number = numberOf r; place = placeOf r }
 
 abbrev pub acceptRefusal : Acceptance → Refusal
-acceptRefusal Accepted = noRefusal
+acceptRefusal (Accepted n c) = noRefusal
 acceptRefusal (Refused r) = refusalIn r
 
--- ---- the parts of Check
+-- The answer to questions of which q is the first no, about a file of these rows.
+pub record Answered (q : Refusal) (rows : List Row) (answer : Acceptance) : Type 0 where
+  pub refusal : acceptRefusal answer ≡ q
+  pub count : (n : ℕ) (c : code.Counts) → answer ≡ Accepted n c → n ≡ length rows
+  pub counts : (n : ℕ) (c : code.Counts) → answer ≡ Accepted n c → countsIn c ≡ countsOf rows
 
--- Of one block or row: n is the number of its first no, or 0.
-abbrev pub refusalAt : ℕ → ℕ → Refusal
-refusalAt zero place = noRefusal
-refusalAt (suc n) place = record { number = suc n; place = place }
-
--- Questions 2 to 5 of block B, and of all blocks.
-abbrev pub blockAsked : List ℕ → ℕ → ℕ
-blockAsked f B = blockQuestions (blockCount f) B (blockAt f B)
-
-abbrev pub blocksRefusal : List ℕ → Refusal
-blocksRefusal f = itemQuestions (blockCount f) (blockAsked f)
+-- The entire outcome of Check, for all files.
+abbrev pub Checked : List ℕ → Acceptance → Type 0
+Checked file answer = Answered (fileRefusal file) (netlistOf file) answer

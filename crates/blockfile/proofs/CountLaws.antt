@@ -1,4 +1,4 @@
--- Counts of the first elements of a list, a row's sort by its fields, and the counts with one row more.
+-- Counts of the first elements of a list, a row's sort by its fields, and the counts of rows.
 -- Assumes nothing.
 use Prim.Native.Nat.{ℕ, zero, suc, _+_, _<_, _≤_}
 use mathlib.Core.Path.{_≡_, refl, sym, ap, _∙_}
@@ -11,13 +11,10 @@ use lib.ListN.{length, getD, take}
 use lib.Seq.{take-suc, take-length}
 use borrow.Author.Tests.{ne-eqb}
 use Rattle.memory.specs.Lists.{countIf}
-use Rattle.memory.specs.Fields.{byteAt}
 use Rattle.memory.proofs.ListLaws.{count-last}
-use Rattle.netlist.specs.Rows.{Row, constant, rowFromFields, rowAt, isInput, isRegister, isUnknown, isOutput}
-use Rattle.netlist.specs.FileFormat.{rowOffset, readFields, netlistOf}
+use Rattle.netlist.specs.Rows.{Row, constant, rowFromFields, isInput, isRegister, isUnknown, isOutput}
 use Rattle.questions.specs.Questions.{Counts, countsOf}
-use Rattle.blockfile.specs.Ready.{HasRows}
-use Rattle.blockfile.specs.CountCode.{withRow, EachAtMost}
+use Rattle.blockfile.specs.CountCode.{EachAtMost}
 
 -- ---- the first i elements
 
@@ -60,10 +57,6 @@ sorts-by (suc (suc (suc (suc (suc (suc (suc k))))))) r a b c =
     let other : (n : ℕ) → n ≤ 6 → eqb (suc (suc (suc (suc (suc (suc (suc k))))))) n ≡ false = λ n h. ne-eqb _ n (λ e. omega arith) in
     record { input-if = sym (other 1 (omega arith)); register-if = sym (other 2 (omega arith)); unknown-if = rw (other 2 (omega arith)) refl; output-if = sym (other 6 (omega arith)) }
 
--- Row i of a file that is ready.
-pub sort-at : (f : List ℕ) (n : ℕ) → HasRows f n → (i : ℕ) → i < n → SortsBy (byteAt f (rowOffset i)) (byteAt f (rowOffset i + 1)) (rowAt (netlistOf f) i)
-sort-at f n R i h = let w = readFields f i in rw (R .row-is i h) (sorts-by (w .kind) (w .reset) (w .a) (w .b) (w .c))
-
 -- ---- counts
 
 pub counts-small : (rows : List Row) (i : ℕ) (c : Counts) → c ≡ countsOf (take i rows) → EachAtMost c i
@@ -78,30 +71,6 @@ counts-small rows i c e =
 
 pub most-more : (c : Counts) (i m : ℕ) → i ≤ m → EachAtMost c i → EachAtMost c m
 most-more c i m h s = record { nodes = omega (arith, s .nodes); inputs = omega (arith, s .inputs); registers = omega (arith, s .registers); unknown = omega (arith, s .unknown); outputs = omega (arith, s .outputs) }
-
-none-if : (b : Bool) → cond {A = ℕ} (not b) 1 0 ≡ cond b 0 1
-none-if true = refl
-none-if false = refl
-
-counts-next : (rows : List Row) (i kind reset : ℕ) → i < length rows → SortsBy kind reset (rowAt rows i) → withRow (countsOf (take i rows)) kind reset ≡ countsOf (take (i + 1) rows)
-counts-next rows i kind reset h S =
-    rw (
-      count-next (λ r. not (isOutput r)) constant rows i h,
-      count-next isInput constant rows i h,
-      count-next isRegister constant rows i h,
-      count-next isUnknown constant rows i h,
-      count-next isOutput constant rows i h,
-      none-if (isOutput (rowAt rows i)),
-      S .input-if,
-      S .register-if,
-      S .unknown-if,
-      S .output-if,
-    ) refl
-
--- One row more, read at its place.
-pub counts-more : (f : List ℕ) (n : ℕ) → HasRows f n → (i place : ℕ) (c d : Counts) → i < n → place ≡ rowOffset i → c ≡ countsOf (take i (netlistOf f)) → d ≡ withRow c (byteAt f place) (byteAt f (place + 1)) → d ≡ countsOf (take (i + 1) (netlistOf f))
-counts-more f n R i place c d h p e q =
-    q ∙ rw (p, e) (counts-next (netlistOf f) i (byteAt f (rowOffset i)) (byteAt f (rowOffset i + 1)) (omega (arith, R .count)) (sort-at f n R i h))
 
 pub counts-all : (rows : List Row) (n : ℕ) → n ≡ length rows → countsOf (take n rows) ≡ countsOf rows
 counts-all rows n e = ap countsOf (ap (λ (k : ℕ). take k rows) e ∙ take-length rows)

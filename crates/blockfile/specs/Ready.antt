@@ -8,7 +8,6 @@ use lib.ListN.{length}
 use Rattle.netlist.specs.Limits.{mostRows}
 use Rattle.netlist.specs.Rows.{Row, decodeRow, rowAt}
 use Rattle.netlist.specs.FileFormat.{rowOffset, readFields, netlistOf}
-use Rattle.netlist.specs.WellFormed.{FoldableRows, CheckedRows}
 
 -- The file has n rows: each stands in it, and is what its eight bytes say.
 pub record HasRows (f : List ℕ) (n : ℕ) : Type 0 where

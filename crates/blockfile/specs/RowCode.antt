@@ -11,9 +11,9 @@ use Rattle.blockfile.specs.declared.Fields.{Fields}
 abbrev pub fieldsIn : Fields → RowFields
 fieldsIn w = record { kind = w .kind; reset = w .reset; a = w .a; b = w .b; c = w .c }
 
--- The fields in the eight bytes from place p on.
+-- The fields in the eight bytes from offset o on.
 abbrev pub fieldsFrom : List ℕ → ℕ → RowFields
-fieldsFrom f p = record { kind = byteAt f p; reset = byteAt f (p + 1); a = u16At f (p + 2); b = u16At f (p + 4); c = u16At f (p + 6) }
+fieldsFrom f o = record { kind = byteAt f o; reset = byteAt f (o + 1); a = u16At f (o + 2); b = u16At f (o + 4); c = u16At f (o + 6) }
 
 -- Each of the three fields has 16 bits.
 pub record Small (w : Fields) : Type 0 where

@@ -5,7 +5,7 @@ use mathlib.Core.Path.{_≡_}
 use mathlib.Core.List.{List}
 use native.Mathlib.Omega.{arith}
 use Rattle.memory.specs.Fields.{byteAt, u32At}
-use Rattle.ternary_step.specs.WorkMap.{entryPlace, entryIn}
+use Rattle.fold_memory.specs.WorkMap.{entryOffset, entryIn}
 use Rattle.clock_list.specs.ClockCode.{clockOf}
 use Rattle.clock_list.specs.declared.Clock.{Clock}
 
@@ -18,9 +18,9 @@ four-bytes w p a b c d ea eb ec ed =
     rw (m, n, o, ea, eb, ec, ed) (omega arith)
 
 -- The entry that is made of its eight bytes.
-pub clock-read : (w : List ℕ) (e low high period word a b c d : ℕ) → low ≡ byteAt w (entryPlace e) → high ≡ byteAt w (entryPlace e + 1) → period ≡ byteAt w (entryPlace e + 2) → word ≡ byteAt w (entryPlace e + 3)
-    → a ≡ byteAt w (entryPlace e + 4) → b ≡ byteAt w (entryPlace e + 5) → c ≡ byteAt w (entryPlace e + 6) → d ≡ byteAt w (entryPlace e + 7)
+pub clock-read : (w : List ℕ) (e low high period word a b c d : ℕ) → low ≡ byteAt w (entryOffset e) → high ≡ byteAt w (entryOffset e + 1) → period ≡ byteAt w (entryOffset e + 2) → word ≡ byteAt w (entryOffset e + 3)
+    → a ≡ byteAt w (entryOffset e + 4) → b ≡ byteAt w (entryOffset e + 5) → c ≡ byteAt w (entryOffset e + 6) → d ≡ byteAt w (entryOffset e + 7)
     → _≡_ {A = Clock} (record { label = low + 2 ^ 8 * high; period = period; word = word; ones = a + 2 ^ 8 * b + 2 ^ 16 * c + 2 ^ 24 * d }) (clockOf (entryIn w e))
 clock-read w e low high period word a b c d el eh ep ew ea eb ec ed =
-    let f = four-bytes w (entryPlace e) a b c d ea eb ec ed in
+    let f = four-bytes w (entryOffset e) a b c d ea eb ec ed in
     rw (f, el, eh, ep, ew)

@@ -10,7 +10,7 @@ use lib.ListN.{length, set, drop, getD, length-append, length-drop, length-map}
 use lib.Seq.{drop-cons, set-at}
 use Rattle.memory.proofs.ListLaws.{tabulate-length}
 use Rattle.lasso.specs.ClockEntries.{ClockEntry}
-use Rattle.ternary_step.specs.WorkMap.{entryIn, entriesIn}
+use Rattle.fold_memory.specs.WorkMap.{entryIn, entriesIn}
 use Rattle.clock_list.specs.ClockCode.{clockOf, clocksOf}
 use Rattle.clock_list.specs.declared.Clock.{Clock}
 

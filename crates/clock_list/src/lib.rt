@@ -5,8 +5,9 @@ ghost use Prim.Native.Nat.{_<_, _≤_};
 ghost use lib.ListN.{length, set, drop};
 ghost use Rattle.memory.specs.Fields.{byteAt};
 ghost use Rattle.netlist.specs.Limits.{foldClockEntries};
-ghost use Rattle.ternary_step.specs.WorkMap.{entryIn, entriesIn};
+ghost use Rattle.fold_memory.specs.WorkMap.{entryIn, entriesIn};
 ghost use Rattle.clock_list.specs.ClockCode.{clockOf, clocksOf};
+use fold_memory::ENTRIES;
 
 // A used generator: its register's label, its period, its values over the phases as bits, and how many of these are set.
 #[repr(C)]
@@ -16,8 +17,6 @@ pub struct Clock {
     pub word: u8,
     pub ones: u32,
 }
-
-const ENTRIES: usize = 16384;
 
 // The byte at `at`, and 0 past the end.
 fn byte_or_zero(work: &[u8], at: usize) -> u8
@@ -31,15 +30,15 @@ fn entry_at(work: &[u8], index: usize) -> Clock
     requires { ⌜ index < foldClockEntries ⌝ }
     ensures { λ r. ⌜ r ≡ clockOf (entryIn (now (work .entry)) index) ⌝ }
 {
-    let place = ENTRIES + 8 * index;
-    let label_low = byte_or_zero(work, place) as u16;
-    let label_high = byte_or_zero(work, place + 1) as u16;
-    let period = byte_or_zero(work, place + 2);
-    let word = byte_or_zero(work, place + 3);
-    let ones_0 = byte_or_zero(work, place + 4) as u32;
-    let ones_1 = byte_or_zero(work, place + 5) as u32;
-    let ones_2 = byte_or_zero(work, place + 6) as u32;
-    let ones_3 = byte_or_zero(work, place + 7) as u32;
+    let offset = ENTRIES + 8 * index;
+    let label_low = byte_or_zero(work, offset) as u16;
+    let label_high = byte_or_zero(work, offset + 1) as u16;
+    let period = byte_or_zero(work, offset + 2);
+    let word = byte_or_zero(work, offset + 3);
+    let ones_0 = byte_or_zero(work, offset + 4) as u32;
+    let ones_1 = byte_or_zero(work, offset + 5) as u32;
+    let ones_2 = byte_or_zero(work, offset + 6) as u32;
+    let ones_3 = byte_or_zero(work, offset + 7) as u32;
     Clock {
         label: label_low + 256 * label_high,
         period: period,

@@ -1,4 +1,4 @@
-// The clock entries, packed where the history was.
+// The clock entries, packed.
 ghost use mathlib.Core.Path.{_≡_};
 ghost use mathlib.Core.Bool.{cond};
 ghost use Prim.Native.Nat.{_+_, _<_, _≤_};
@@ -10,23 +10,22 @@ ghost use Rattle.netlist.specs.Limits.{foldWorkBytes, foldClockEntries};
 ghost use Rattle.netlist.specs.FileFormat.{netlistOf};
 ghost use Rattle.netlist.specs.WellFormed.{FoldableRows};
 ghost use Rattle.blockfile.specs.Ready.{Ready};
-ghost use Rattle.ternary_step.specs.WorkMap.{knownPlace, entryPlace};
+ghost use Rattle.fold_memory.specs.WorkMap.{knownOffset, entryOffset};
 ghost use Rattle.clock_words.specs.EntryStage.{entryBytes, EntryReady, entryPut, KnownRegisters, EntryPart};
-use crate::known;
-
-const ENTRIES: usize = 16384;
+use fold_memory::ENTRIES;
+use fold_memory::KNOWN;
 
 // Puts entry e.
 fn put_entry(work: &mut [u8], e: usize, label: u32, period: u8, word: u8)
     requires { ⌜ (e < foldClockEntries) × (foldWorkBytes ≤ length (now work)) ⌝ }
-    ensures { λ _. ⌜ now (work .exit) ≡ sets (now (work .entry)) (entryPlace e) (entryBytes label period word) ⌝ }
+    ensures { λ _. ⌜ now (work .exit) ≡ sets (now (work .entry)) (entryOffset e) (entryBytes label period word) ⌝ }
 {
-    let place = ENTRIES + 8 * e;
-    let at_period = place + 2;
-    let at_word = place + 3;
-    let at_ones = place + 4;
+    let offset = ENTRIES + 8 * e;
+    let at_period = offset + 2;
+    let at_word = offset + 3;
+    let at_ones = offset + 4;
     let ones = u8::count_ones(word);
-    memory::write_u16(work, place, label);
+    memory::write_u16(work, offset, label);
     work[at_period] = period;
     work[at_word] = word;
     memory::write_u32(work, at_ones, ones);
@@ -35,9 +34,9 @@ fn put_entry(work: &mut [u8], e: usize, label: u32, period: u8, word: u8)
 // Puts the row's entry as entry e, if its generator is used; answers the number of entries up to it.
 fn entry_row(file: &[u8], rows: usize, row: usize, work: &mut [u8], e: usize) -> usize
     requires { ⌜ EntryReady (now file) rows (now work) row e ⌝ }
-    ensures { λ r. ⌜ (r ≡ e + cond (eqb (byteAt (now (work .entry)) (knownPlace row)) 0) 0 1) × (now (work .exit) ≡ entryPut (netlistOf (now (file .entry))) (now (work .entry)) row e) ⌝ }
+    ensures { λ r. ⌜ (r ≡ e + cond (eqb (byteAt (now (work .entry)) (knownOffset row)) 0) 0 1) × (now (work .exit) ≡ entryPut (netlistOf (now (file .entry))) (now (work .entry)) row e) ⌝ }
 {
-    let first = known::KNOWN + 2 * row;
+    let first = KNOWN + 2 * row;
     let second = first + 1;
     let period = work[first];
     let word = work[second];

@@ -10,14 +10,12 @@ ghost use Rattle.netlist.specs.FileFormat.{netlistOf};
 ghost use Rattle.netlist.specs.WellFormed.{FoldableRows};
 ghost use Rattle.lasso.specs.ClockEntries.{clockWord};
 ghost use Rattle.blockfile.specs.Ready.{Ready};
-ghost use Rattle.ternary_step.specs.WorkMap.{knownPlace};
 ghost use Rattle.ternary_step.specs.StateMap.{registersBefore, AtRow};
 ghost use Rattle.period_finder.specs.PeriodStage.{PeriodPart};
+ghost use Rattle.fold_memory.specs.WorkMap.{knownOffset};
 ghost use Rattle.clock_words.specs.KnownStage.{WordReady, phaseValue, KnownPart};
-use ternary_step::HISTORY;
-use ternary_step::VALUES;
-
-pub const KNOWN: usize = 33840;
+use fold_memory::KNOWN;
+use fold_memory::VALUES;
 
 // A code 0 or 1 as bit k.
 fn bit_at(code: u8, k: usize) -> usize
@@ -36,7 +34,8 @@ fn clock_word(work: &[u8], j: usize, period: usize, phases: usize) -> u8
     let mut k = 0;
     'phases: while k < phases {
         let t = k % period;
-        let code = ternary_step::register_code(work, HISTORY + 64 * t, j);
+        let base = fold_memory::state_offset(t);
+        let code = ternary_step::register_code(work, base, j);
         word = word + bit_at(code, k);
         k += 1;
     }
@@ -46,7 +45,7 @@ fn clock_word(work: &[u8], j: usize, period: usize, phases: usize) -> u8
 // Puts the two bytes of a row.
 fn put_known(work: &mut [u8], row: usize, period: u8, word: u8)
     requires { ⌜ (row < mostOriginalRows) × (foldWorkBytes ≤ length (now work)) ⌝ }
-    ensures { λ _. ⌜ now (work .exit) ≡ sets (now (work .entry)) (knownPlace row) (period ∷ word ∷ []) ⌝ }
+    ensures { λ _. ⌜ now (work .exit) ≡ sets (now (work .entry)) (knownOffset row) (period ∷ word ∷ []) ⌝ }
 {
     let first = KNOWN + 2 * row;
     let second = first + 1;
@@ -65,12 +64,12 @@ fn known_row(
 ) -> usize
     requires { ⌜ AtRow (now file) rows row j ⌝ }
     requires { ⌜ (1 ≤ phases) × ((phases ≤ mostPhases) × KnownPart (netlistOf (now file)) phases (now work) row) ⌝ }
-    ensures { λ r. ⌜ (r ≡ registersBefore (netlistOf (now (file .entry))) (row + 1)) × (KeptOutside (knownPlace 0) (knownPlace mostOriginalRows) (now (work .entry)) (now (work .exit)) × KnownPart (netlistOf (now (file .entry))) phases (now (work .exit)) (row + 1)) ⌝ }
+    ensures { λ r. ⌜ (r ≡ registersBefore (netlistOf (now (file .entry))) (row + 1)) × (KeptOutside (knownOffset 0) (knownOffset mostOriginalRows) (now (work .entry)) (now (work .exit)) × KnownPart (netlistOf (now (file .entry))) phases (now (work .exit)) (row + 1)) ⌝ }
 {
     let fields = blockfile::read_row(file, row);
     let next = ternary_step::count_register(fields.kind, j);
-    let place = VALUES + row;
-    let period = work[place];
+    let offset = VALUES + row;
+    let period = work[offset];
     let p = period as usize;
     if period_finder::is_used(phases, p) {
         let word = clock_word(work, j, p, phases);
@@ -85,7 +84,7 @@ fn known_row(
 pub fn find_known(file: &[u8], rows: usize, work: &mut [u8], phases: usize)
     requires { ⌜ Ready FoldableRows (now file) rows ⌝ }
     requires { ⌜ (1 ≤ phases) × ((phases ≤ mostPhases) × PeriodPart (netlistOf (now file)) (now work) rows) ⌝ }
-    ensures { λ _. ⌜ KeptOutside (knownPlace 0) (knownPlace mostOriginalRows) (now (work .entry)) (now (work .exit)) × KnownPart (netlistOf (now (file .entry))) phases (now (work .exit)) rows ⌝ }
+    ensures { λ _. ⌜ KeptOutside (knownOffset 0) (knownOffset mostOriginalRows) (now (work .entry)) (now (work .exit)) × KnownPart (netlistOf (now (file .entry))) phases (now (work .exit)) rows ⌝ }
 {
     let mut i = 0;
     let mut j = 0;

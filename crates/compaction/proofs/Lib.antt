@@ -1,5 +1,3 @@
--- Laws of slots, kinds, the search for the cone, and moved rows.
-pub mod SlotLaws
-pub mod KindLaws
-pub mod ConeSearch
+-- Laws of numbered rows, of the slots in the work memory, and of moved rows.
+pub mod NumberLaws
 pub mod MoveLaws

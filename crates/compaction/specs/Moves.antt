@@ -1,36 +1,23 @@
 -- Rows moved down in place, with the numbers that the slots have.
 -- Assumes nothing.
-use Prim.Native.Nat.{ℕ, _+_, _*_, _/_, _%_, _^_}
+use Prim.Native.Nat.{ℕ, _+_}
 use mathlib.Core.Path.{_≡_}
 use mathlib.Core.Bool.{Bool, cond}
 use mathlib.Core.List.{List}
 use lib.ListN.{length}
-use lib.Dec.{ltb}
 use lib.Seq.{sets}
-use Rattle.netlist.specs.Rows.{Row, RowFields, literalsOf, rowFromFields}
+use Rattle.netlist.specs.Rows.{Row}
 use Rattle.netlist.specs.FileFormat.{rowOffset, readFields, fieldBytes}
 use Rattle.abstraction.specs.Compaction.{newIndex, compactUpTo}
 use Rattle.blockfile.specs.RowsStand.{RowsStand}
+use Rattle.blockfile.specs.Renumbering.{renumberFields, renumberIn}
+use Rattle.cone_search.specs.FoundRows.{markAt}
 use Rattle.compaction.specs.Compactable.{Compactable}
-use Rattle.compaction.specs.Slots.{slotAt, markAt, markBit, Numbered}
+use Rattle.compaction.specs.Slots.{slotCount, markBit, Numbered}
 
--- How many literals a row of kind k has: its first fields.
-abbrev pub literalCount : ℕ → ℕ
-literalCount k = length (literalsOf (rowFromFields k 0 0 0 0))
-
--- g of each field that is a literal.
-abbrev pub renumberFields : (ℕ → ℕ) → RowFields → RowFields
-renumberFields g w =
-    let k = literalCount (w .kind) in
-    record { kind = w .kind; reset = w .reset; a = cond (ltb 0 k) (g (w .a)) (w .a); b = cond (ltb 1 k) (g (w .b)) (w .b); c = cond (ltb 2 k) (g (w .c)) (w .c) }
-
--- The literal l by the numbers in the slots w, of which there are 2 ^ 13.
-abbrev pub renumberIn : List ℕ → ℕ → ℕ
-renumberIn w l = 2 * (slotAt w (l / 2 % 2 ^ 13) % 2 ^ 15) + l % 2
-
--- f with row i, renumbered, at place t.
+-- f with row i, renumbered, as row t.
 abbrev pub moveRow : List ℕ → List ℕ → ℕ → ℕ → List ℕ
-moveRow f w i t = sets f (rowOffset t) (fieldBytes (renumberFields (renumberIn w) (readFields f i)))
+moveRow f w i t = sets f (rowOffset t) (fieldBytes (renumberFields (renumberIn w slotCount) (readFields f i)))
 
 -- The same if row i is marked, and how many rows then stand in front.
 pub record RowKept (f w : List ℕ) (i t : ℕ) (f′ : List ℕ) (t′ : ℕ) : Type 0 where

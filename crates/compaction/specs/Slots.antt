@@ -1,75 +1,19 @@
--- A slot of two bytes for each row: first its mark and the list of the rows found so far, then its mark and its new number.
+-- How many slots are read, and the marks and new numbers that they have once the cone is found.
 -- Assumes nothing.
-use Prim.Native.Nat.{ℕ, _+_, _*_, _%_, _^_, _<_, _≤_}
+use Prim.Native.Nat.{ℕ, _+_, _*_, _^_, _<_}
 use mathlib.Core.Path.{_≡_}
-use mathlib.Core.Logic.{_≢_}
-use mathlib.Core.Bool.{Bool, true, cond}
+use mathlib.Core.Bool.{Bool, cond}
 use mathlib.Core.List.{List}
-use lib.Dec.{leb}
-use lib.Seq.{sets}
-use Rattle.memory.specs.Lists.{tabulate, countIf}
-use Rattle.memory.specs.Fields.{u16At, u16Bytes}
-use Rattle.netlist.specs.Limits.{mostFoldedRows}
-use Rattle.abstraction.specs.Compaction.{isConeRoot, isMarked, markAll, newIndex}
-use Rattle.compaction.specs.Compactable.{heldRow}
+use Rattle.memory.specs.Slots.{slotAt}
+use Rattle.abstraction.specs.Compaction.{isMarked, newIndex}
+use Rattle.fold_memory.specs.WorkMap.{slotsStart}
 
--- The slots in Fold's work memory.
-abbrev pub slotsStart : ℕ
-slotsStart = 32768
+-- As many slots are read, so that every literal has one.
+abbrev pub slotCount : ℕ
+slotCount = 8192
 
-abbrev pub slotsEnd : ℕ
-slotsEnd = slotsStart + 2 * mostFoldedRows
-
-abbrev pub slotAt : List ℕ → ℕ → ℕ
-slotAt w j = u16At w (2 * j)
-
--- w with v in slot j.
-abbrev pub setSlot : List ℕ → ℕ → ℕ → List ℕ
-setSlot w j v = sets w (2 * j) (u16Bytes v)
-
--- ---- marks and found rows
-
--- Bit 15 of slot j is the mark of row j.
-abbrev pub markAt : List ℕ → ℕ → Bool
-markAt w j = leb (2 ^ 15) (slotAt w j)
-
-abbrev pub marksIn : List ℕ → ℕ → List Bool
-marksIn w n = tabulate n (markAt w)
-
--- The other bits of slot k are the row that was found as number k.
-abbrev pub foundAt : List ℕ → ℕ → ℕ
-foundAt w k = slotAt w k % 2 ^ 15
-
--- Row j is marked besides.
-pub record RowMarked (w : List ℕ) (j : ℕ) (w′ : List ℕ) : Type 0 where
-  pub is : markAt w′ j ≡ true
-  pub others : (x : ℕ) → x ≢ j → markAt w′ x ≡ markAt w x
-  pub founds : (x : ℕ) → foundAt w′ x ≡ foundAt w x
-
--- Row r is found as number k.
-pub record RowListed (w : List ℕ) (k r : ℕ) (w′ : List ℕ) : Type 0 where
-  pub is : foundAt w′ k ≡ r
-  pub others : (x : ℕ) → x ≢ k → foundAt w′ x ≡ foundAt w x
-  pub marks : (x : ℕ) → markAt w′ x ≡ markAt w x
-
--- Of n rows the t found ones are those that are marked.
-pub record Found (w : List ℕ) (n t : ℕ) : Type 0 where
-  pub counted : t ≡ countIf (λ b. b) (marksIn w n)
-  pub marked : (k : ℕ) → k < t → (foundAt w k < n) × (markAt w (foundAt w k) ≡ true)
-  pub listed : (j : ℕ) → j < n → markAt w j ≡ true → (k : ℕ) × (k < t) × (foundAt w k ≡ j)
-
--- The rows js were found besides: those of them that are new follow the t that were there.
-pub record Pushed (w : List ℕ) (n t : ℕ) (js w′ : List ℕ) (t′ : ℕ) : Type 0 where
-  pub found : Found w′ n t′
-  pub more : t ≤ t′
-  pub before : (k : ℕ) → k < t → foundAt w′ k ≡ foundAt w k
-  pub marks : marksIn w′ n ≡ markAll (marksIn w n) js
-
--- Of the first n rows of f the roots are marked, and no others.
-abbrev pub RootsMarked : List ℕ → List ℕ → ℕ → Type 0
-RootsMarked f w n = (j : ℕ) → j < n → markAt w j ≡ isConeRoot (heldRow f j)
-
--- ---- marks and numbers
+abbrev pub readEnd : ℕ
+readEnd = slotsStart + 2 * slotCount
 
 -- A mark as a number.
 abbrev pub markBit : Bool → ℕ

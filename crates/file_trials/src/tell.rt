@@ -1,8 +1,8 @@
 // What is seen is printed behind its line of the script, and held to what the line expects.
 use accept::Acceptance;
 use accept::FileRefusal;
-use run_core::RunAnswer;
-use run_core::RunRefusal;
+use run::RunAnswer;
+use run::RunRefusal;
 use text::both;
 
 // A refusal's number and place by the scope paper; 0 and 0 for success.
@@ -35,7 +35,7 @@ pub fn of_file(refusal: FileRefusal) -> Seen {
 
 pub fn of_check(answer: Acceptance) -> Seen {
     match answer {
-        Acceptance::Accepted => Seen(0, 0),
+        Acceptance::Accepted { rows: _, counts: _ } => Seen(0, 0),
         Acceptance::Refused(refusal) => of_file(refusal),
     }
 }

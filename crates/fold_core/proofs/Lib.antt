@@ -1,5 +1,4 @@
--- Laws of the questions before the lasso, of the stages, and of the whole outcome.
-pub mod EarlyLaws
+-- Laws of the stages, and of the whole outcome.
 pub mod UnrolledFits
 pub mod StageLaws
 pub mod PassedLaws

@@ -23,15 +23,16 @@ use Rattle.questions.proofs.QuestionLaws.{list-none, list-next, list-stop}
 use Rattle.guarantees.specs.FoldGuarantee.{FoldGuarantee}
 use Rattle.guarantees.proofs.FoldPromise.{fold-guarantee}
 use Rattle.ternary_step.proofs.ReadyLaws.{work-ready-of}
-use Rattle.fold_core.specs.FoldAnswers.{foldRefusalIn, foldingRefusal, numbersIn, foldAnswered, numbersOf, entriesOf, resultOf}
+use Rattle.fold_refusals.specs.FoldRefusals.{foldRefusalIn, earlyRefusal, askedRefusal, Questioned}
+use Rattle.fold_core.specs.FoldAnswers.{foldingRefusal, numbersIn, foldAnswered, numbersOf, entriesOf, resultOf}
 use Rattle.fold_core.specs.FoldOutcome.{fileLeft, LeftFolded, CoreFolded}
-use Rattle.fold_core.specs.FoldParts.{earlyRefusal, askedRefusal, Questioned, FoldReady, foldingOf, FoldMade}
-use Rattle.fold_core.specs.declared.early.Asked.{Asked}
-use Rattle.fold_core.specs.declared.early.Asked.the-variants.{Passed, Stopped}
-use Rattle.fold_core.specs.declared.FoldRefusal.{FoldRefusal}
+use Rattle.fold_core.specs.FoldParts.{FoldReady, foldingOf, FoldMade}
+use Rattle.fold_refusals.specs.declared.asking.Asked.{Asked}
+use Rattle.fold_refusals.specs.declared.asking.Asked.the-variants.{Passed, Stopped}
+use Rattle.fold_refusals.specs.declared.FoldRefusal.{FoldRefusal}
 use Rattle.fold_core.specs.declared.Folding.{Folding}
 use Rattle.fold_core.specs.declared.Folding.the-variants.{Refused}
-use Rattle.fold_core.proofs.EarlyLaws.{fold-number-positive}
+use Rattle.fold_refusals.proofs.EarlyLaws.{fold-number-positive}
 use Rattle.fold_core.proofs.PassedLaws.{earlyAsked, early-memory}
 
 same-number : {q r : Refusal} → q ≡ r → q .number ≡ r .number

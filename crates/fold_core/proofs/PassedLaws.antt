@@ -26,7 +26,6 @@ use Rattle.fold_questions.specs.FoldRefusalWords.{MemoryRight}
 use Rattle.fold_questions.proofs.FoldAccepted.{foldMemoryRight-iff, OriginalRight, original-right}
 use Rattle.questions.proofs.AcceptedFiles.{FileRight, file-right}
 use Rattle.blockfile.specs.Ready.{Ready}
-use Rattle.ternary_step.specs.WorkMap.{entryIn, entriesIn}
 use Rattle.lasso_finder.specs.Outcome.{phasesOf, analysedClocks, analysisOf, Analysed}
 use Rattle.lasso_finder.specs.declared.Analysis.{Analysis}
 use Rattle.lasso_finder.specs.declared.Analysis.the-variants as analysis
@@ -34,11 +33,13 @@ use Rattle.lasso_finder.specs.declared.Clocks.{Clocks}
 use Rattle.ternary_step.proofs.ReadyLaws.{analysis-ready}
 use Rattle.clock_words.proofs.EntryLaws.{entry-kept}
 use Rattle.unrolling.specs.UnrollMap.{Room}
+use Rattle.fold_memory.specs.WorkMap.{entryIn, entriesIn}
 use Rattle.fold_core.specs.FoldAnswers.{numbersOf, entriesOf, resultOf}
-use Rattle.fold_core.specs.FoldParts.{earlyRefusal, FoldReady, foldingOf, FoldMade}
+use Rattle.fold_refusals.specs.FoldRefusals.{earlyRefusal}
+use Rattle.fold_core.specs.FoldParts.{FoldReady, foldingOf, FoldMade}
 use Rattle.fold_core.specs.FoldStages.{EntriesKept, FoldWritten, NumbersFit, numbersFrom}
 use Rattle.fold_core.specs.declared.FoldNumbers.{FoldNumbers}
-use Rattle.fold_core.specs.declared.FoldRefusal.the-variants.{NoLasso}
+use Rattle.fold_refusals.specs.declared.FoldRefusal.the-variants.{NoLasso}
 use Rattle.fold_core.specs.declared.Folding.the-variants.{Done, Refused}
 
 -- ---- the entries that stay

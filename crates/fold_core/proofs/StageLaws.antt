@@ -20,10 +20,9 @@ use Rattle.abstraction.proofs.SizeBound.{fold-fits}
 use Rattle.blockfile.specs.RowsStand.{RowsStand}
 use Rattle.blockfile.specs.Ready.{Ready}
 use Rattle.compaction.specs.Compactable.{Compactable}
-use Rattle.compaction.specs.Slots.{slotsStart, slotsEnd}
-use Rattle.ternary_step.specs.WorkMap.{knownIn}
 use Rattle.unrolling.specs.UnrollMap.{imagesEnd}
 use Rattle.unrolling.proofs.UnrollFacts.{netlist-few}
+use Rattle.fold_memory.specs.WorkMap.{slotsStart, slotsEnd, knownIn}
 use Rattle.fold_core.specs.FoldStages.{KnownAs, FoldWritten}
 use Rattle.fold_core.proofs.UnrolledFits.{unrolled-compactable}
 
@@ -65,5 +64,5 @@ module _ {file : List ℕ} (O : Ready FoldableRows file (length (netlistOf file)
                   let e : length result₂ - 512 * blocksFor kept ≡ length result - length (fileOf new) = omega (arith, file-length new, ap blocksFor (q .0)) in
                   sealed new (sym (q .0)) (q .1) ∙ ap (λ (z : ℕ). fileOf new ++ replicate z 0) e;
               few = kept-few;
-              kept = λ x h l. slots .before x l ∙ images .after x h;
+              kept = λ x h l. slots .after x (omega arith) ∙ images .after x (omega arith);
             }

@@ -1,33 +1,20 @@
 -- Fold's answers as the scope paper's numbers and places, and the fold that they are of.
--- Interface: foldRefusalIn, foldingRefusal, numbersIn, usedIn; foldAnswered, numbersOf, entriesOf, fileIn, resultOf.
+-- Interface: foldingRefusal, numbersIn, usedIn; foldAnswered, numbersOf, entriesOf, fileIn, resultOf.
 -- Assumes nothing.
 use Prim.Native.Nat.{ℕ, _-_}
-use mathlib.Core.Bool.{cond}
 use mathlib.Core.List.{List, [], _++_}
 use mathlib.Core.Option.{Option, none, some}
-use lib.Dec.{eqb}
 use lib.ListN.{length, replicate}
 use Rattle.netlist.specs.Rows.{Row}
 use Rattle.netlist.specs.FileFormat.{netlistOf, fileOf}
 use Rattle.lasso.specs.ClockEntries.{ClockEntry}
 use Rattle.abstraction.specs.Fold.{FoldAnswer, foldNetlist}
-use Rattle.questions.specs.Questions.{Refusal, noRefusal}
+use Rattle.questions.specs.Questions.{Refusal, noRefusal, unlessRefused}
 use Rattle.fold_questions.specs.FoldQuestions.{foldRefusal}
-use Rattle.accept.specs.Refusals.{refusalIn}
-use Rattle.fold_core.specs.declared.FoldRefusal.{FoldRefusal}
-use Rattle.fold_core.specs.declared.FoldRefusal.the-variants.{File, Rows, Registers, Phase, Wish, Memory, NoLasso}
+use Rattle.fold_refusals.specs.FoldRefusals.{foldRefusalIn}
 use Rattle.fold_core.specs.declared.FoldNumbers.{FoldNumbers}
 use Rattle.fold_core.specs.declared.Folding.{Folding}
 use Rattle.fold_core.specs.declared.Folding.the-variants.{Done, Refused}
-
-abbrev pub foldRefusalIn : FoldRefusal → Refusal
-foldRefusalIn (File r) = refusalIn r
-foldRefusalIn Rows = record { number = 11; place = 0 }
-foldRefusalIn Registers = record { number = 12; place = 0 }
-foldRefusalIn (Phase row) = record { number = 13; place = row }
-foldRefusalIn Wish = record { number = 14; place = 0 }
-foldRefusalIn Memory = record { number = 15; place = 0 }
-foldRefusalIn NoLasso = record { number = 16; place = 0 }
 
 abbrev pub foldingRefusal : Folding → Refusal
 foldingRefusal (Done n) = noRefusal
@@ -48,7 +35,7 @@ usedIn answer = numbersIn answer .used
 
 -- The fold of the file, or none where Fold refuses: wish, and the lengths of result, work and clock list.
 abbrev pub foldAnswered : List ℕ → ℕ → ℕ → ℕ → ℕ → Option FoldAnswer
-foldAnswered file wish result work clocks = cond (eqb (foldRefusal file wish result work clocks .number) 0) (foldNetlist (netlistOf file) wish) none
+foldAnswered file wish result work clocks = unlessRefused (foldRefusal file wish result work clocks) (foldNetlist (netlistOf file) wish) none
 
 abbrev pub numbersOf : Option FoldAnswer → FoldNumbers
 numbersOf none = noNumbers

@@ -11,7 +11,7 @@ use Rattle.abstraction.specs.SameBehaviour.{SameBehaviour, StandsFor}
 use Rattle.questions.specs.Questions.{noRefusal, fileRefusal}
 use Rattle.fold_questions.specs.FoldQuestions.{foldRefusal}
 use Rattle.guarantees.specs.FoldGuarantee.{FoldGuarantee}
-use Rattle.ternary_step.specs.WorkMap.{entriesIn}
+use Rattle.fold_memory.specs.WorkMap.{entriesIn}
 use Rattle.fold_core.specs.FoldAnswers.{foldingRefusal, numbersIn, usedIn, foldAnswered, numbersOf, entriesOf, resultOf}
 use Rattle.fold_core.specs.declared.Folding.{Folding}
 

@@ -10,10 +10,8 @@ use Rattle.ternary.specs.Ternary.{Ternary}
 use Rattle.netlist.specs.Limits.{mostPhases, mostOriginalRows, mostFoldedRows, foldClockEntries, lastState}
 use Rattle.netlist.specs.Rows.{Row}
 use Rattle.abstraction.specs.Fold.{foldWith}
-use Rattle.ternary_step.specs.WorkMap.{knownIn}
 use Rattle.lasso_finder.specs.declared.Clocks.{Clocks}
-use Rattle.unrolling.specs.UnrollMap.{imagesEnd}
-use Rattle.compaction.specs.Slots.{slotsStart}
+use Rattle.fold_memory.specs.WorkMap.{knownIn, entryOffset}
 use Rattle.fold_core.specs.FoldAnswers.{fileIn}
 use Rattle.fold_core.specs.declared.FoldNumbers.{FoldNumbers}
 
@@ -21,9 +19,9 @@ use Rattle.fold_core.specs.declared.FoldNumbers.{FoldNumbers}
 abbrev pub KnownAs : (ℕ → ℕ → Ternary) → ℕ → ℕ → List ℕ → Type 0
 KnownAs clock n N w = (i k : ℕ) → i < n → k < N → knownIn w i k ≡ clock i k
 
--- The bytes between the images and the slots, where the clock entries stand, are the same.
+-- The bytes of the clock entries are the same.
 abbrev pub EntriesKept : List ℕ → List ℕ → Type 0
-EntriesKept w w′ = (x : ℕ) → imagesEnd ≤ x → x < slotsStart → byteAt w′ x ≡ byteAt w x
+EntriesKept w w′ = (x : ℕ) → entryOffset 0 ≤ x → x < entryOffset foldClockEntries → byteAt w′ x ≡ byteAt w x
 
 -- The fold by such a clock is written, and has m rows.
 pub record FoldWritten (rows : List Row) (N : ℕ) (result result′ work work′ : List ℕ) (m : ℕ) : Type 0 where

@@ -21,9 +21,9 @@ fn write_fold(file: &[u8], rows: usize, phases: usize, result: &mut [u8], work: 
     requires { ⌜ Room (now result) (now work) ⌝ }
     ensures { λ r. ⌜ FoldWritten (netlistOf (now (file .entry))) phases (now (result .entry)) (now (result .exit)) (now (work .entry)) (now (work .exit)) r ⌝ }
 {
-    let made = unrolling::unroll::unroll(file, rows, phases, result, work);
+    let made = unrolling::unroll(file, rows, phases, result, work);
     let kept = compaction::compact_rows(result, work, made);
-    blockfile::writer::write_file(result, kept);
+    blocks::writer::write_file(result, kept);
     kept
 }
 

@@ -1,8 +1,8 @@
 -- The rules for AND, XOR and MUX by the ways through the code: a law for each way, its premises the outcomes of the tests on it.
 -- Assumes nothing.
 use Prim.Native.Nat.{ℕ, _+_, _*_, _<_, _≤_, _/_, _%_, min, max}
-use mathlib.Core.Path.{_≡_, sym, _∙_}
-use mathlib.Core.Bool.{false}
+use mathlib.Core.Path.{_≡_, sym, ap, _∙_}
+use mathlib.Core.Bool.{true, false}
 use native.Mathlib.Omega.{arith}
 use lib.Dec.{eqb}
 use borrow.Author.Tests.{eq-eqb, ne-eqb}
@@ -29,36 +29,36 @@ module _ (a b : ℕ) where
   and-first-false e = simp (eq-eqb a 0 e)
 
   module _ (n1 : a ≡ 0 → ⊥) where
-    pub and-second-false : b ≡ 0 → Existing 0 ≡ imageCode (makeAnd a b)
+    pub and-second-false : eqb b 0 ≡ true → Existing 0 ≡ imageCode (makeAnd a b)
     unfolding makeAnd
-    and-second-false e = simp (ne-eqb a 0 n1, eq-eqb b 0 e)
+    and-second-false e = simp (ne-eqb a 0 n1, e)
 
-    module _ (n2 : b ≡ 0 → ⊥) (o : ℕ) (q : o ≡ complement b) where
-      pub and-inverses : a ≡ o → Existing 0 ≡ imageCode (makeAnd a b)
+    module _ (n2 : eqb b 0 ≡ false) (o : ℕ) (q : o ≡ complement b) where
+      pub and-complements : eqb a o ≡ true → Existing 0 ≡ imageCode (makeAnd a b)
       unfolding makeAnd
-      and-inverses e = simp (ne-eqb a 0 n1, ne-eqb b 0 n2, eq-eqb a (complement b) (e ∙ q))
+      and-complements e = simp (ne-eqb a 0 n1, n2, ap (eqb a) (sym q) ∙ e)
 
-      module _ (n3 : a ≡ o → ⊥) where
+      module _ (n3 : eqb a o ≡ false) where
         apart : eqb a (complement b) ≡ false
-        apart = ne-eqb a (complement b) (λ e. n3 (e ∙ sym q))
+        apart = ap (eqb a) (sym q) ∙ n3
 
         pub and-first-true : a ≡ 1 → Existing b ≡ imageCode (makeAnd a b)
         unfolding makeAnd
-        and-first-true e = simp (ne-eqb a 0 n1, ne-eqb b 0 n2, apart, eq-eqb a 1 e)
+        and-first-true e = simp (ne-eqb a 0 n1, n2, apart, eq-eqb a 1 e)
 
         module _ (n4 : a ≡ 1 → ⊥) where
           pub and-second-true : b ≡ 1 → Existing a ≡ imageCode (makeAnd a b)
           unfolding makeAnd
-          and-second-true e = simp (ne-eqb a 0 n1, ne-eqb b 0 n2, apart, ne-eqb a 1 n4, eq-eqb b 1 e)
+          and-second-true e = simp (ne-eqb a 0 n1, n2, apart, ne-eqb a 1 n4, eq-eqb b 1 e)
 
           module _ (n5 : b ≡ 1 → ⊥) where
             pub and-equal : a ≡ b → Existing a ≡ imageCode (makeAnd a b)
             unfolding makeAnd
-            and-equal e = simp (ne-eqb a 0 n1, ne-eqb b 0 n2, apart, ne-eqb a 1 n4, ne-eqb b 1 n5, eq-eqb a b e)
+            and-equal e = simp (ne-eqb a 0 n1, n2, apart, ne-eqb a 1 n4, ne-eqb b 1 n5, eq-eqb a b e)
 
             pub and-new : (r : MadeImage) → (a ≡ b → ⊥) → r ≡ pairCode 3 a b 0 → r ≡ imageCode (makeAnd a b)
             unfolding makeAnd
-            and-new r n6 e = simp (e, ne-eqb a 0 n1, ne-eqb b 0 n2, apart, ne-eqb a 1 n4, ne-eqb b 1 n5, ne-eqb a b n6)
+            and-new r n6 e = simp (e, ne-eqb a 0 n1, n2, apart, ne-eqb a 1 n4, ne-eqb b 1 n5, ne-eqb a b n6)
 
 -- ---- XOR
 
@@ -68,38 +68,38 @@ module _ (a b : ℕ) where
   xor-equal e = simp (eq-eqb a b e)
 
   module _ (n1 : a ≡ b → ⊥) (o : ℕ) (q : o ≡ complement b) where
-    pub xor-inverses : a ≡ o → Existing 1 ≡ imageCode (makeXor a b)
+    pub xor-complements : a ≡ o → Existing 1 ≡ imageCode (makeXor a b)
     unfolding makeXor
-    xor-inverses e = simp (ne-eqb a b n1, eq-eqb a (complement b) (e ∙ q))
+    xor-complements e = simp (ne-eqb a b n1, eq-eqb a (complement b) (e ∙ q))
 
     module _ (n2 : a ≡ o → ⊥) where
-      no-inverses : eqb a (complement b) ≡ false
-      no-inverses = ne-eqb a (complement b) (λ e. n2 (e ∙ sym q))
+      no-complements : eqb a (complement b) ≡ false
+      no-complements = ne-eqb a (complement b) (λ e. n2 (e ∙ sym q))
 
       pub xor-first-false : a ≡ 0 → Existing b ≡ imageCode (makeXor a b)
       unfolding makeXor
-      xor-first-false e = simp (ne-eqb a b n1, no-inverses, eq-eqb a 0 e)
+      xor-first-false e = simp (ne-eqb a b n1, no-complements, eq-eqb a 0 e)
 
       module _ (n3 : a ≡ 0 → ⊥) where
         pub xor-second-false : b ≡ 0 → Existing a ≡ imageCode (makeXor a b)
         unfolding makeXor
-        xor-second-false e = simp (ne-eqb a b n1, no-inverses, ne-eqb a 0 n3, eq-eqb b 0 e)
+        xor-second-false e = simp (ne-eqb a b n1, no-complements, ne-eqb a 0 n3, eq-eqb b 0 e)
 
         module _ (n4 : b ≡ 0 → ⊥) where
           pub xor-first-true : (p : ℕ) → a ≡ 1 → p ≡ complement b → Existing p ≡ imageCode (makeXor a b)
           unfolding makeXor
-          xor-first-true p e f = simp (f, ne-eqb a b n1, no-inverses, ne-eqb a 0 n3, ne-eqb b 0 n4, eq-eqb a 1 e)
+          xor-first-true p e f = simp (f, ne-eqb a b n1, no-complements, ne-eqb a 0 n3, ne-eqb b 0 n4, eq-eqb a 1 e)
 
           module _ (n5 : a ≡ 1 → ⊥) where
             pub xor-second-true : (p : ℕ) → b ≡ 1 → p ≡ complement a → Existing p ≡ imageCode (makeXor a b)
             unfolding makeXor
-            xor-second-true p e f = simp (f, ne-eqb a b n1, no-inverses, ne-eqb a 0 n3, ne-eqb b 0 n4, ne-eqb a 1 n5, eq-eqb b 1 e)
+            xor-second-true p e f = simp (f, ne-eqb a b n1, no-complements, ne-eqb a 0 n3, ne-eqb b 0 n4, ne-eqb a 1 n5, eq-eqb b 1 e)
 
             pub xor-new : (r : MadeImage) → (b ≡ 1 → ⊥) → r ≡ pairCode 4 (2 * (a / 2)) (2 * (b / 2)) ((a % 2 + b % 2) % 2) → r ≡ imageCode (makeXor a b)
             unfolding makeXor
             xor-new r n6 e =
                 let h : (a % 2 + b % 2) % 2 ≡ (a + b) % 2 = omega arith in
-                simp (e, h, ne-eqb a b n1, no-inverses, ne-eqb a 0 n3, ne-eqb b 0 n4, ne-eqb a 1 n5, ne-eqb b 1 n6)
+                simp (e, h, ne-eqb a b n1, no-complements, ne-eqb a 0 n3, ne-eqb b 0 n4, ne-eqb a 1 n5, ne-eqb b 1 n6)
 
 -- ---- MUX
 

@@ -7,13 +7,17 @@ use Rattle.gates.specs.declared.MadeRow.{MadeRow}
 use Rattle.gates.specs.declared.MadeImage.{MadeImage}
 use Rattle.gates.specs.declared.MadeImage.the-variants.{Existing, NewRow}
 
-abbrev pub madeFields : RowFields → MadeRow
-madeFields w = record { kind = w .kind; reset = w .reset; a = w .a; b = w .b; c = w .c }
+-- A new row with these fields, and the fields of a new row.
+abbrev pub madeRow : RowFields → MadeRow
+madeRow w = record { kind = w .kind; reset = w .reset; a = w .a; b = w .b; c = w .c }
 
--- A new row has the fields of the model's row.
+abbrev pub madeFields : MadeRow → RowFields
+madeFields x = record { kind = x .kind; reset = x .reset; a = x .a; b = x .b; c = x .c }
+
+-- The image has the fields of the model's row.
 abbrev pub imageCode : Image → MadeImage
 imageCode (existing l) = Existing l
-imageCode (newRow r b) = NewRow (madeFields (encodeRow r)) b
+imageCode (newRow r b) = NewRow (madeRow (encodeRow r)) b
 
 -- A new gate of two operands, the smaller first.
 abbrev pub pairCode : ℕ → ℕ → ℕ → ℕ → MadeImage

@@ -13,22 +13,22 @@ pub struct MadeRow {
     pub c: u16,
 }
 
-// An image: a literal that is there, or a new row, inverted if the number is 1.
+// An image: a literal that is there, or a new row, complemented if the number is 1.
 pub enum MadeImage {
     Existing(u16),
     NewRow(MadeRow, u8),
 }
 
-// The inverse of a literal.
-pub fn inverse(l: u16) -> u16
+// The complement of a literal.
+pub fn complement(l: u16) -> u16
     ensures { λ r. ⌜ r ≡ complement l ⌝ }
 {
     if l % 2 == 0 { l + 1 } else { l - 1 }
 }
 
 // A new gate of two operands, the smaller first.
-fn pair_gate(kind: u8, a: u16, b: u16, inverted: u8) -> MadeImage
-    ensures { λ r. ⌜ r ≡ pairCode kind a b inverted ⌝ }
+fn pair_gate(kind: u8, a: u16, b: u16, complemented: u8) -> MadeImage
+    ensures { λ r. ⌜ r ≡ pairCode kind a b complemented ⌝ }
 {
     if a < b {
         MadeImage::NewRow(
@@ -39,7 +39,7 @@ fn pair_gate(kind: u8, a: u16, b: u16, inverted: u8) -> MadeImage
                 b,
                 c: 0,
             },
-            inverted,
+            complemented,
         )
     } else {
         MadeImage::NewRow(
@@ -50,7 +50,7 @@ fn pair_gate(kind: u8, a: u16, b: u16, inverted: u8) -> MadeImage
                 b: a,
                 c: 0,
             },
-            inverted,
+            complemented,
         )
     }
 }
@@ -58,15 +58,8 @@ fn pair_gate(kind: u8, a: u16, b: u16, inverted: u8) -> MadeImage
 pub fn make_and(a: u16, b: u16) -> MadeImage
     ensures { λ r. ⌜ r ≡ imageCode (makeAnd a b) ⌝ }
 {
-    if a == 0 {
+    if a == 0 || b == 0 || a == complement(b) {
         return MadeImage::Existing(0);
-    }
-    if b == 0 {
-        return MadeImage::Existing(0);
-    }
-    if a == inverse(b) {
-        let never = 0;
-        return MadeImage::Existing(never);
     }
     if a == 1 {
         return MadeImage::Existing(b);
@@ -86,7 +79,7 @@ pub fn make_xor(a: u16, b: u16) -> MadeImage
     if a == b {
         return MadeImage::Existing(0);
     }
-    if a == inverse(b) {
+    if a == complement(b) {
         return MadeImage::Existing(1);
     }
     if a == 0 {
@@ -96,13 +89,13 @@ pub fn make_xor(a: u16, b: u16) -> MadeImage
         return MadeImage::Existing(a);
     }
     if a == 1 {
-        return MadeImage::Existing(inverse(b));
+        return MadeImage::Existing(complement(b));
     }
     if b == 1 {
-        return MadeImage::Existing(inverse(a));
+        return MadeImage::Existing(complement(a));
     }
-    let inverted = ((a % 2 + b % 2) % 2) as u8;
-    pair_gate(4, 2 * (a / 2), 2 * (b / 2), inverted)
+    let complemented = ((a % 2 + b % 2) % 2) as u8;
+    pair_gate(4, 2 * (a / 2), 2 * (b / 2), complemented)
 }
 
 // A new MUX.
@@ -137,5 +130,5 @@ pub fn make_mux(a: u16, b: u16, c: u16) -> MadeImage
     if a % 2 == 0 {
         return mux_gate(a, b, c);
     }
-    mux_gate(inverse(a), c, b)
+    mux_gate(complement(a), c, b)
 }

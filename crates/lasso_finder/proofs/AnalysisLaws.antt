@@ -9,14 +9,13 @@ use lib.ListN.{length}
 use Rattle.memory.specs.Fields.{byteAt}
 use Rattle.memory.specs.Frames.{KeptOutside}
 use Rattle.memory.proofs.FrameLaws.{kept-wider, kept-join}
-use Rattle.netlist.specs.Limits.{mostPhases, mostOriginalRows, foldWorkBytes}
+use Rattle.netlist.specs.Limits.{mostPhases, mostOriginalRows}
 use Rattle.netlist.specs.Rows.{Row}
 use Rattle.lasso.specs.LassoSearch.{Lasso, findLasso}
 use Rattle.lasso.specs.Generators.{periodsOf, usedCount, phaseCount, clockValue}
 use Rattle.lasso.specs.ClockEntries.{clockEntries}
 use Rattle.lasso.proofs.PhaseCountLaws.{phases-pos, phases-le}
-use Rattle.ternary_step.specs.WorkMap.{knownPlace, knownIn, entriesIn}
-use Rattle.ternary_step.specs.StateMap.{statePlace, valuePlace, ClearedWork}
+use Rattle.ternary_step.specs.StateMap.{ClearedWork}
 use Rattle.lasso_search.specs.SearchStage.{repeatOf, LassoDone}
 use Rattle.lasso_search.specs.declared.Repeat.{Repeat}
 use Rattle.lasso_search.specs.declared.Repeat.the-variants.{Found as AtState, Never}
@@ -26,6 +25,7 @@ use Rattle.clock_words.specs.KnownStage.{KnownPart}
 use Rattle.clock_words.specs.EntryStage.{KnownRegisters, EntryPart}
 use Rattle.clock_words.proofs.KnownLaws.{known-is}
 use Rattle.clock_words.proofs.EntryLaws.{known-registers, entries-are, entries-number}
+use Rattle.fold_memory.specs.WorkMap.{valueOffset, knownOffset, knownIn, entriesIn}
 use Rattle.lasso_finder.specs.Outcome.{phasesOf, analysisOf, Analysed}
 use Rattle.lasso_finder.specs.declared.Analysis.{Analysis}
 use Rattle.lasso_finder.specs.declared.Analysis.the-variants.{NoLasso, Found}
@@ -50,7 +50,7 @@ module _ {rows : List Row} {w w₁ : List ℕ} {r : Repeat} (L : LassoDone rows 
         answer = sym (ap (analysisOf rows wish) q);
         known = λ z f. absurd (let b : _≡_ {A = ℕ} 0 1 = cc in omega arith);
         entries = λ z f. absurd (let b : _≡_ {A = ℕ} 0 1 = cc in omega arith);
-        kept = kept-wider (statePlace 0) (knownPlace mostOriginalRows) (L .kept) (omega arith) (omega arith);
+        kept = kept-wider (valueOffset 0) (knownOffset mostOriginalRows) (L .kept) (omega arith) (omega arith);
       }
 
   module _ {stem cycle : ℕ} (found : r ≡ AtState stem cycle) (ready : ClearedWork w) where
@@ -75,7 +75,7 @@ module _ {rows : List Row} {w w₁ : List ℕ} {r : Repeat} (L : LassoDone rows 
         let room = ready .room in
         record { found = is-some; room = omega arith; states = L .states (lassoIn rows) is-some }
 
-    module _ {n : ℕ} (count : n ≡ length rows) {w₂ : List ℕ} {wish : ℕ} (K₂ : KeptOutside (valuePlace 0) (valuePlace mostOriginalRows) w₁ w₂) (P₂ : PeriodPart rows w₂ n) {phases : ℕ} (phases-are : phases ≡ phaseCount wish (periodBytes w₂ n)) (small : wish ≤ mostPhases) where
+    module _ {n : ℕ} (count : n ≡ length rows) {w₂ : List ℕ} {wish : ℕ} (K₂ : KeptOutside (valueOffset 0) (valueOffset mostOriginalRows) w₁ w₂) (P₂ : PeriodPart rows w₂ n) {phases : ℕ} (phases-are : phases ≡ phaseCount wish (periodBytes w₂ n)) (small : wish ≤ mostPhases) where
       phases-is : phases ≡ phaseCount wish (periodsOf rows (lassoIn rows))
       phases-is =
           phases-are ∙ ap (λ (k : ℕ). phaseCount wish (periodBytes w₂ k)) count
@@ -87,25 +87,25 @@ module _ {rows : List Row} {w w₁ : List ℕ} {r : Repeat} (L : LassoDone rows 
       pub phases-to : phases ≤ mostPhases
       phases-to = rw phases-is (phases-le wish (periodsOf rows (lassoIn rows)) small)
 
-      module _ {w₃ : List ℕ} (K₃ : KeptOutside (knownPlace 0) (knownPlace mostOriginalRows) w₂ w₃) (P₃ : KnownPart rows phases w₃ n) where
+      module _ {w₃ : List ℕ} (K₃ : KeptOutside (knownOffset 0) (knownOffset mostOriginalRows) w₂ w₃) (P₃ : KnownPart rows phases w₃ n) where
         part : KnownPart rows phases w₃ (length rows)
         part = subst (KnownPart rows phases w₃) count P₃
 
-        pub entries-ask : (foldWorkBytes ≤ length w₃) × KnownRegisters rows w₃
-        entries-ask = (P₃ .part .lassoed .room, known-registers phases-from phases-to part)
+        pub entries-registers : KnownRegisters rows w₃
+        entries-registers = known-registers phases-from phases-to part
 
         module _ {w₄ : List ℕ} {used : ℕ} (E : EntryPart rows w₃ w₄ n used) where
-          all-kept : KeptOutside (statePlace 0) (knownPlace mostOriginalRows) w w₄
+          all-kept : KeptOutside (valueOffset 0) (knownOffset mostOriginalRows) w w₄
           all-kept =
-              let a = kept-join (statePlace 0) (knownPlace mostOriginalRows) w w₁ w₂ (L .kept) K₂ (omega arith) (omega arith) (omega arith) (omega arith) in
-              let b = kept-join (statePlace 0) (knownPlace mostOriginalRows) w w₂ w₃ a K₃ (omega arith) (omega arith) (omega arith) (omega arith) in
-              kept-join (statePlace 0) (knownPlace mostOriginalRows) w w₃ w₄ b (E .kept) (omega arith) (omega arith) (omega arith) (omega arith)
+              let a = kept-join (valueOffset 0) (knownOffset mostOriginalRows) w w₁ w₂ (L .kept) K₂ (omega arith) (omega arith) (omega arith) (omega arith) in
+              let b = kept-join (valueOffset 0) (knownOffset mostOriginalRows) w w₂ w₃ a K₃ (omega arith) (omega arith) (omega arith) (omega arith) in
+              kept-join (valueOffset 0) (knownOffset mostOriginalRows) w w₃ w₄ b (E .kept) (omega arith) (omega arith) (omega arith) (omega arith)
 
           -- The entries stand before the known bytes.
           known-after : (i k : ℕ) → i < length rows → k < phases → knownIn w₄ i k ≡ clockValue rows (periodsOf rows (lassoIn rows)) phases i k
           known-after i k h l =
-              let a : byteAt w₄ (knownPlace i) ≡ byteAt w₃ (knownPlace i) = E .kept .after (knownPlace i) (omega arith) in
-              let b : byteAt w₄ (knownPlace i + 1) ≡ byteAt w₃ (knownPlace i + 1) = E .kept .after (knownPlace i + 1) (omega arith) in
+              let a : byteAt w₄ (knownOffset i) ≡ byteAt w₃ (knownOffset i) = E .kept .after (knownOffset i) (omega arith) in
+              let b : byteAt w₄ (knownOffset i + 1) ≡ byteAt w₃ (knownOffset i + 1) = E .kept .after (knownOffset i + 1) (omega arith) in
               rw (a, b) (known-is (P₃ .part) h phases-from phases-to (part .known i h) k l)
 
           used-is : used ≡ usedCount (periodsOf rows (lassoIn rows)) phases

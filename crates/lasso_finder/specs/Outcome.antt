@@ -12,8 +12,7 @@ use Rattle.netlist.specs.Rows.{Row}
 use Rattle.lasso.specs.LassoSearch.{Lasso, findLasso}
 use Rattle.lasso.specs.Generators.{periodsOf, usedCount, phaseCount, clockValue}
 use Rattle.lasso.specs.ClockEntries.{clockEntries}
-use Rattle.ternary_step.specs.WorkMap.{knownPlace, knownIn, entriesIn}
-use Rattle.ternary_step.specs.StateMap.{statePlace}
+use Rattle.fold_memory.specs.WorkMap.{valueOffset, knownOffset, knownIn, entriesIn}
 use Rattle.lasso_finder.specs.declared.Analysis.{Analysis}
 use Rattle.lasso_finder.specs.declared.Analysis.the-variants.{NoLasso, Found}
 use Rattle.lasso_finder.specs.declared.Clocks.{Clocks}
@@ -34,4 +33,4 @@ pub record Analysed (rows : List Row) (wish : ℕ) (w w′ : List ℕ) (r : Anal
   pub answer : r ≡ analysisOf rows wish (findLasso rows)
   pub known : (z : Lasso) → findLasso rows ≡ some z → (i k : ℕ) → i < length rows → k < phasesOf rows wish z → knownIn w′ i k ≡ clockValue rows (periodsOf rows z) (phasesOf rows wish z) i k
   pub entries : (z : Lasso) → findLasso rows ≡ some z → entriesIn w′ (usedCount (periodsOf rows z) (phasesOf rows wish z)) ≡ clockEntries rows (periodsOf rows z) (phasesOf rows wish z)
-  pub kept : KeptOutside (statePlace 0) (knownPlace mostOriginalRows) w w′
+  pub kept : KeptOutside (valueOffset 0) (knownOffset mostOriginalRows) w w′

@@ -15,15 +15,15 @@ use Rattle.memory.specs.Frames.{KeptOutside}
 use Rattle.memory.proofs.TestLaws.{last-or}
 use Rattle.memory.proofs.ListLaws.{first-none, first-found}
 use Rattle.memory.proofs.FrameLaws.{kept-none, kept-join}
-use Rattle.netlist.specs.Limits.{mostOriginalRegisters, lastState}
+use Rattle.netlist.specs.Limits.{lastState}
 use Rattle.netlist.specs.Rows.{Row, isRegister}
 use Rattle.netlist.specs.FileFormat.{netlistOf}
 use Rattle.netlist.specs.WellFormed.{FoldableRows}
 use Rattle.lasso.specs.LassoSearch.{isRepeat, earlierEqual, firstRepeat, Lasso, findLasso}
 use Rattle.blockfile.specs.Ready.{Ready}
-use Rattle.ternary_step.specs.WorkMap.{knownPlace}
-use Rattle.ternary_step.specs.StateMap.{statePlace, nextPlace, Stored, Started, Searched}
-use Rattle.ternary_step.proofs.StepLaws.{StartKept, place-within}
+use Rattle.ternary_step.specs.StateMap.{ClearedWork, Stored, Started, Searched}
+use Rattle.ternary_step.proofs.StepLaws.{StartKept}
+use Rattle.fold_memory.specs.WorkMap.{valueOffset, stateOffset}
 use Rattle.lasso_search.specs.SearchStage.{sameWord, repeatOf, LassoDone}
 use Rattle.lasso_search.specs.declared.Repeat.the-variants.{Found, Never}
 use Rattle.lasso_search.proofs.WordLaws.{same-states}
@@ -60,33 +60,45 @@ module _ (rows : List Row) where
 
 -- ---- the memory while it goes on
 
+-- Only the values, the list and the states change.
+abbrev SearchKept : List ℕ → List ℕ → Type 0
+SearchKept w w′ = KeptOutside (valueOffset 0) (stateOffset (suc lastState)) w w′
+
 -- States 0 to m - 1 all differ, and stand in the memory. w₀ is the memory when only state 0 did.
 pub record Sought (rows : List Row) (w₀ w : List ℕ) (m : ℕ) : Type 0 where
   pub from : 1 ≤ m
   pub to : m ≤ suc lastState
+  pub room : stateOffset (suc lastState) ≤ length w
   pub searched : Searched rows w m
   pub no-repeat : NoRepeat rows m
-  pub kept : KeptOutside (statePlace 0) (knownPlace 0) w₀ w
+  pub kept : SearchKept w₀ w
 
-module _ {rows : List Row} {n : ℕ} {w w₁ : List ℕ} (count : n ≡ length rows) (K : StartKept w w₁) where
+module _ {rows : List Row} {n : ℕ} {w w₁ : List ℕ} (ready : ClearedWork w) (count : n ≡ length rows) (K : StartKept w w₁) where
   pub sought-start : Started rows w₁ n → Sought rows w₁ w₁ 1
   sought-start P =
-      let P′ = subst (Started rows w₁) count P in record {
+      let P′ = subst (Started rows w₁) count P in
+      let r = ready .room in
+      let l = K .long in record {
         from = omega arith;
         to = omega arith;
+        room = omega arith;
         searched = record {
           coded = P .coded;
+          room = omega arith;
           stored = λ t h. (let e : 0 ≡ t = omega arith in subst (Stored rows w₁) e (P′ .part));
           clear = P .clear;
           nexts = P′ .nexts;
         };
         no-repeat = λ j a b. absurd (omega arith);
-        kept = kept-none (statePlace 0) (knownPlace 0) w₁;
+        kept = kept-none (valueOffset 0) (stateOffset (suc lastState)) w₁;
       }
 
   module _ {w₂ : List ℕ} {m : ℕ} (S : Sought rows w₁ w₂ m) where
-    all-kept : StartKept w w₂
-    all-kept = kept-join (statePlace 0) (nextPlace mostOriginalRegisters) w w₁ w₂ K (S .kept) (omega arith) (omega arith) (omega arith) (omega arith)
+    all-kept : SearchKept w w₂
+    all-kept = kept-join (valueOffset 0) (stateOffset (suc lastState)) w w₁ w₂ K (S .kept) (omega arith) (omega arith) (omega arith) (omega arith)
+
+    pub advance-room : m ≤ lastState → stateOffset (m + 1) ≤ length w₂
+    advance-room h = let r = S .room in omega arith
 
     pub sought-never : lastState < m → LassoDone rows w w₂ Never
     sought-never h =
@@ -99,14 +111,15 @@ module _ {rows : List Row} {n : ℕ} {w w₁ : List ℕ} (count : n ≡ length r
           kept = all-kept;
         }
 
-    module _ {w₃ : List ℕ} (small : m ≤ lastState) (L : KeptOutside (statePlace 0) (knownPlace 0) w₂ w₃) (D : Searched rows w₃ (m + 1)) where
+    module _ {w₃ : List ℕ} (small : m ≤ lastState) (L : KeptOutside (valueOffset 0) (stateOffset (m + 1)) w₂ w₃) (D : Searched rows w₃ (m + 1)) where
       pub sought-next : Unlike rows m m → Sought rows w₁ w₃ (m + 1)
-      sought-next u = record {
+      sought-next u = let r = S .room in let l = L .long in record {
         from = omega arith;
         to = omega arith;
+        room = omega arith;
         searched = D;
         no-repeat = no-repeat-more rows m (S .no-repeat) u;
-        kept = kept-join (statePlace 0) (knownPlace 0) w₁ w₂ w₃ (S .kept) L (omega arith) (omega arith) (omega arith) (omega arith);
+        kept = kept-join (valueOffset 0) (stateOffset (suc lastState)) w₁ w₂ w₃ (S .kept) L (omega arith) (omega arith) (omega arith) (omega arith);
       }
 
       pub sought-found : (k : ℕ) → k < m → Unlike rows m k → isRepeat rows m k ≡ true → LassoDone rows w w₃ (Found k (m - k))
@@ -118,18 +131,16 @@ module _ {rows : List Row} {n : ℕ} {w w₁ : List ℕ} (count : n ≡ length r
                 let c : z ≡ record { stem = k; cycle = m - k } = Option·some-injective _ _ (sym f ∙ q) in
                 let b : z .stem + z .cycle ≡ m = ap (λ (y : Lasso). y .stem + y .cycle) c ∙ omega arith in
                 D .stored t (omega arith);
-            kept = kept-join (statePlace 0) (nextPlace mostOriginalRegisters) w w₂ w₃ all-kept L (omega arith) (omega arith) (omega arith) (omega arith);
+            kept = kept-join (valueOffset 0) (stateOffset (suc lastState)) w w₂ w₃ all-kept L (omega arith) (omega arith) (omega arith) (omega arith);
           }
 
 -- ---- the comparison of states k and m
 
-module _ {f : List ℕ} {n : ℕ} (R : Ready FoldableRows f n) {w : List ℕ} {m k words registers old new : ℕ} (small : m ≤ lastState) (less : k < m) (D : Searched (netlistOf f) w (m + 1)) (count : registers ≡ countIf isRegister (netlistOf f)) (size : words ≡ (registers + 31) / 32) (at-old : old ≡ statePlace k) (at-new : new ≡ statePlace m) where
+module _ {f : List ℕ} {n : ℕ} (R : Ready FoldableRows f n) {w : List ℕ} {m k words registers old new : ℕ} (small : m ≤ lastState) (less : k < m) (D : Searched (netlistOf f) w (m + 1)) (count : registers ≡ countIf isRegister (netlistOf f)) (size : words ≡ (registers + 31) / 32) (at-old : old ≡ stateOffset k) (at-new : new ≡ stateOffset m) where
   pub same-asks : (old + 8 * words ≤ length w) × (new + 8 * words ≤ length w)
   same-asks =
       let few = R .rows .registers in
-      let room = D .coded .room in
-      let a = place-within k (omega arith) in
-      let b = place-within m small in
+      let room = D .room in
       (omega arith, omega arith)
 
   pub repeat-is : IsBytes w → (r : Bool) → r ≡ allBelow words (sameWord w old new) → r ≡ isRepeat (netlistOf f) m k

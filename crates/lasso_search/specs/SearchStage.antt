@@ -1,7 +1,7 @@
 -- What the search for the lasso answers and leaves in the work memory.
 -- Interface: LassoDone.
 -- Assumes nothing.
-use Prim.Native.Nat.{ℕ, _+_, _*_, _<_, _^_}
+use Prim.Native.Nat.{ℕ, suc, _+_, _*_, _<_, _^_}
 use mathlib.Core.Path.{_≡_}
 use mathlib.Core.Bool.{Bool}
 use mathlib.Core.List.{List}
@@ -9,10 +9,11 @@ use mathlib.Core.Option.{Option, none, some}
 use lib.Dec.{eqb}
 use Rattle.memory.specs.Fields.{u32At}
 use Rattle.memory.specs.Frames.{KeptOutside}
-use Rattle.netlist.specs.Limits.{mostOriginalRegisters}
+use Rattle.netlist.specs.Limits.{lastState}
 use Rattle.netlist.specs.Rows.{Row}
 use Rattle.lasso.specs.LassoSearch.{Lasso, findLasso}
-use Rattle.ternary_step.specs.StateMap.{statePlace, nextPlace, Stored}
+use Rattle.ternary_step.specs.StateMap.{Stored}
+use Rattle.fold_memory.specs.WorkMap.{valueOffset, stateOffset}
 use Rattle.lasso_search.specs.declared.Repeat.{Repeat}
 use Rattle.lasso_search.specs.declared.Repeat.the-variants.{Found, Never}
 
@@ -31,4 +32,4 @@ repeatOf (some z) = Found (z .stem) (z .cycle)
 pub record LassoDone (rows : List Row) (w w′ : List ℕ) (r : Repeat) : Type 0 where
   pub answer : r ≡ repeatOf (findLasso rows)
   pub states : (z : Lasso) → findLasso rows ≡ some z → (t : ℕ) → t < z .stem + z .cycle → Stored rows w′ t
-  pub kept : KeptOutside (statePlace 0) (nextPlace mostOriginalRegisters) w w′
+  pub kept : KeptOutside (valueOffset 0) (stateOffset (suc lastState)) w w′

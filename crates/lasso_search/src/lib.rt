@@ -8,8 +8,7 @@ ghost use Rattle.netlist.specs.WellFormed.{FoldableRows};
 ghost use Rattle.blockfile.specs.Ready.{Ready};
 ghost use Rattle.ternary_step.specs.StateMap.{ClearedWork};
 ghost use Rattle.lasso_search.specs.SearchStage.{wordAt, sameWord, LassoDone};
-
-const LAST_STATE: usize = 256;
+use netlist::LAST_STATE;
 
 // Eight bytes as one number.
 fn word_at(work: &[u8], at: usize) -> u64
@@ -57,10 +56,10 @@ pub fn find_lasso(file: &[u8], rows: usize, work: &mut [u8]) -> Repeat
     let mut m = 1;
     'states: while m <= LAST_STATE {
         ternary_step::advance(file, rows, registers, work, m);
-        let new = ternary_step::state_place(m);
+        let new = fold_memory::state_offset(m);
         let mut k = 0;
         'history: while k < m {
-            let old = ternary_step::state_place(k);
+            let old = fold_memory::state_offset(k);
             if same_state(work, old, new, words) {
                 answer = Repeat::Found {
                     stem: k,

@@ -3,15 +3,13 @@ ghost use mathlib.Core.Path.{_≡_};
 ghost use Prim.Native.Nat.{_+_, _≤_};
 ghost use lib.ListN.{length};
 use fold_core::FoldNumbers;
+use fold_memory::ENTRIES;
 use text::out::Out;
 use text::out::put_filled;
 use text::out::two;
 
 // How many entries a clock list has room for.
 pub const CLOCK_ENTRIES: usize = 256;
-
-// Where the packed clock entries begin in the work memory; each has eight bytes.
-const ENTRIES: usize = 16384;
 
 // Work for a fold.
 pub fn work_room() -> [u8; 49152]
@@ -28,15 +26,15 @@ pub struct Entry {
     pub ones: u32,
 }
 
-// The entry that is packed at `place`.
-fn entry_at(work: &[u8], place: usize) -> Entry
-    requires { ⌜ place + 8 ≤ length (now work) ⌝ }
+// The entry that is packed at `offset`.
+fn entry_at(work: &[u8], offset: usize) -> Entry
+    requires { ⌜ offset + 8 ≤ length (now work) ⌝ }
 {
-    let period_at = place + 2;
-    let word_at = place + 3;
-    let ones_at = place + 4;
+    let period_at = offset + 2;
+    let word_at = offset + 3;
+    let ones_at = offset + 4;
     Entry {
-        label: memory::read_u16(work, place),
+        label: memory::read_u16(work, offset),
         period: memory::read_u8(work, period_at),
         word: memory::read_u8(work, word_at),
         ones: memory::read_u32(work, ones_at),
@@ -45,10 +43,10 @@ fn entry_at(work: &[u8], place: usize) -> Entry
 
 // Entry number `index` in the work memory of a fold; zeros past the end.
 pub fn entry_of(work: &[u8], index: u32) -> Entry {
-    let place = ENTRIES + 8 * index as usize;
-    let end = place + 8;
+    let offset = ENTRIES + 8 * index as usize;
+    let end = offset + 8;
     if end <= work.len() {
-        return entry_at(work, place);
+        return entry_at(work, offset);
     }
     Entry {
         label: 0,

@@ -4,3 +4,4 @@ pub mod ListLaws
 pub mod FieldLaws
 pub mod BufferLaws
 pub mod FrameLaws
+pub mod SlotLaws

@@ -1,4 +1,5 @@
--- Lists, searches over a run of numbers, little-endian fields, and what stays of a run of bytes.
+-- Lists, searches over a run of numbers, little-endian fields, tables of them, and what stays of a run of bytes.
 pub mod Lists
 pub mod Fields
 pub mod Frames
+pub mod Slots

@@ -1,10 +1,11 @@
-// Little-endian numbers read from a run of bytes and written to it, and bytes cleared.
+// Little-endian numbers read from a run of bytes and written to it, tables of such numbers, and bytes cleared.
 ghost use mathlib.Core.Path.{_≡_};
 ghost use mathlib.Core.List.{_++_};
-ghost use Prim.Native.Nat.{_+_, _-_, _^_, _<_, _≤_};
+ghost use Prim.Native.Nat.{_+_, _-_, _*_, _^_, _<_, _≤_};
 ghost use lib.ListN.{length, take, replicate};
 ghost use lib.Seq.{sets};
 ghost use Rattle.memory.specs.Fields.{byteAt, u16At, u32At, u16Bytes, u32Bytes};
+ghost use Rattle.memory.specs.Slots.{slotAt, setSlot};
 
 pub fn read_u8(s: &[u8], at: usize) -> u32
     requires { ⌜ at < length (now s) ⌝ }
@@ -53,6 +54,23 @@ pub fn write_u32(s: &mut [u8], at: usize, v: u32)
     let next = at + 2;
     write_u16(s, at, v);
     write_u16(s, next, high);
+}
+
+// A slot of a table that has two bytes for each.
+pub fn slot_at(slots: &[u8], index: usize) -> usize
+    requires { ⌜ 2 * index + 2 ≤ length (now slots) ⌝ }
+    ensures { λ r. ⌜ (r ≡ slotAt (now (slots .entry)) index) × (r < 2 ^ 16) ⌝ }
+{
+    let offset = 2 * index;
+    read_u16(slots, offset) as usize
+}
+
+pub fn set_slot(slots: &mut [u8], index: usize, value: usize)
+    requires { ⌜ (2 * index + 2 ≤ length (now slots)) × (value < 2 ^ 16) ⌝ }
+    ensures { λ _. ⌜ now (slots .exit) ≡ setSlot (now (slots .entry)) index value ⌝ }
+{
+    let offset = 2 * index;
+    write_u16(slots, offset, value as u32);
 }
 
 // The bytes from `at` on become 0; past the end there are none.

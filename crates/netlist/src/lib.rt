@@ -1,1 +1,31 @@
-// Definitions, laws and theorems alone; no code.
+// The limits of specs/Limits.antt, as code has them.
+
+// A file's bytes and rows.
+pub const MOST_FILE_BYTES: usize = 65536;
+
+pub const MOST_FILE_ROWS: usize = 8064;
+
+// The phase count of a fold.
+pub const MOST_PHASES: usize = 8;
+
+// Rows and registers of a netlist that is folded, and the folded netlist's rows.
+pub const MOST_ORIGINAL_ROWS: usize = 1008;
+
+pub const MOST_ORIGINAL_REGISTERS: usize = 256;
+
+pub const MOST_FOLDED_ROWS: usize = MOST_PHASES * MOST_ORIGINAL_ROWS;
+
+// What Fold is lent.
+pub const FOLD_RESULT_BYTES: usize = 65536;
+
+pub const FOLD_WORK_BYTES: usize = 49152;
+
+pub const FOLD_CLOCK_ENTRIES: usize = 256;
+
+// The last state that is compared with the earlier ones.
+pub const LAST_STATE: usize = 256;
+
+// Run's steps and work.
+pub const MOST_STEPS: usize = 4096;
+
+pub const RUN_WORK_BYTES: usize = 16384;

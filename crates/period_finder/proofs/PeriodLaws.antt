@@ -1,13 +1,13 @@
 -- The period that the memory's states give a register is the definition's, if it is 8 at most.
 -- Assumes nothing.
 use Prim.Native.Nat.{ℕ, zero, suc, _+_, _*_, _<_, _≤_, _/_, _%_}
-use mathlib.Core.Path.{_≡_, refl, sym, ap, ap₂, _∙_}
-use mathlib.Core.Bool.{Bool, true, false, cond, _&&_, true≢false}
+use mathlib.Core.Path.{_≡_, refl, sym, ap, ap₂, _∙_, subst}
+use mathlib.Core.Bool.{Bool, true, false, not, cond, _&&_, true≢false}
 use mathlib.Core.List.{List}
 use native.Mathlib.Omega.{arith}
 use native.Mathlib.Decide.{decLt}
 use native.Mathlib.Nat.{div-add-mod', mod-lt, mod-le, suc-mul}
-use borrow.Author.Tests.{eqb-true, eq-eqb, lt-ltb, le-ltb, le-leb, lt-leb}
+use borrow.Author.Tests.{eqb-true, eq-eqb, ne-eqb, not-true, not-false, lt-ltb, le-ltb, le-leb, lt-leb}
 use lib.Arith.{digits-mod}
 use lib.Dec.{eqb}
 use lib.ListN.{length, set}
@@ -15,10 +15,9 @@ use lib.Seq.{getD-set-same, getD-set-other}
 use Rattle.memory.specs.Lists.{allBelow, firstFrom, countIf}
 use Rattle.memory.specs.Fields.{byteAt}
 use Rattle.memory.proofs.TestLaws.{fails, last-or}
-use Rattle.memory.proofs.ListLaws.{first-none, first-found}
-use Rattle.memory.proofs.FrameLaws.{kept-set}
+use Rattle.memory.proofs.ListLaws.{allBelow-more, allBelow-no, first-none, first-found}
 use Rattle.ternary.specs.Ternary.{codeOf, equal3, isKnown}
-use Rattle.netlist.specs.Limits.{mostPhases, mostOriginalRows, mostOriginalRegisters, foldWorkBytes, lastState}
+use Rattle.netlist.specs.Limits.{mostPhases, mostOriginalRegisters, lastState}
 use Rattle.netlist.specs.Rows.{Row, rowAt, decodeRow, isRegister, constant}
 use Rattle.netlist.specs.FileFormat.{readFields, netlistOf}
 use Rattle.lasso.specs.Generators.{stateValue, isGenerator, periodOf}
@@ -27,19 +26,40 @@ use Rattle.lasso.proofs.GeneratorLaws.{period-other, period-is, period-none}
 use Rattle.blockfile.specs.RowCode.{fieldsIn}
 use Rattle.blockfile.specs.declared.Fields.{Fields}
 use Rattle.blockfile.proofs.CountLaws.{count-place}
-use Rattle.ternary_step.specs.StateMap.{statePlace, valuePlace, codeAt, registersBefore, stateCodes, AtRow}
+use Rattle.ternary_step.specs.StateMap.{codeAt, registersBefore, stateCodes, AtRow}
 use Rattle.ternary_step.proofs.CodeLaws.{packed-at}
 use Rattle.ternary_step.proofs.RegisterLaws.{codes-at}
-use Rattle.ternary_step.proofs.StepLaws.{ValuesKept, packed-values, row-within, row-small, register-is, register-small}
-use Rattle.period_finder.specs.PeriodStage.{lassoIn, Lassoed, holdsAs, generatorIn, smallPeriod, periodIn, PeriodPart}
+use Rattle.ternary_step.proofs.StepLaws.{ValuesKept, values-set, packed-values, row-within, row-small, register-is, register-small, register-yes, register-no}
+use Rattle.fold_memory.specs.WorkMap.{valueOffset, stateOffset}
+use Rattle.period_finder.specs.PeriodStage.{lassoIn, Lassoed, holdsAs, repeatsIn, generatorIn, smallPeriod, periodIn, PeriodPart}
 
 -- ---- one state after another
 
-pub holds-known : (w : List ℕ) (j t u x y : ℕ) → x ≡ codeAt w (statePlace t) j → y ≡ codeAt w (statePlace u) j → x < 2 → eqb x y ≡ holdsAs w j t u
-holds-known w j t u x y p q h = rw (← p, ← q, lt-ltb x 2 h) refl
+-- x is the code of register j in state t, which starts at `base`.
+module _ (w : List ℕ) (j t u x base : ℕ) (at-state : base ≡ stateOffset t) (read : x ≡ codeAt w base j) where
+  code-is : x ≡ codeAt w (stateOffset t) j
+  code-is = read ∙ ap (λ (o : ℕ). codeAt w o j) at-state
 
-pub holds-unknown : (w : List ℕ) (j t u x : ℕ) → x ≡ codeAt w (statePlace t) j → 2 ≤ x → false ≡ holdsAs w j t u
-holds-unknown w j t u x p h = rw (← p, le-ltb x 2 h) refl
+  pub holds-known : (y other : ℕ) → other ≡ stateOffset u → y ≡ codeAt w other j → x < 2 → eqb x y ≡ holdsAs w j t u
+  holds-known y other at-other q h =
+      let k : y ≡ codeAt w (stateOffset u) j = q ∙ ap (λ (o : ℕ). codeAt w o j) at-other in
+      rw (← code-is, ← k, lt-ltb x 2 h) refl
+
+  pub holds-unknown : 2 ≤ x → false ≡ holdsAs w j t u
+  holds-unknown h = rw (← code-is, le-ltb x 2 h) refl
+
+-- A number's remainder.
+pub phase-below : (t u p : ℕ) → u ≡ t % p → 1 ≤ p → u < p
+phase-below t u p e h = rw e (mod-lt t h)
+
+pub phase-early : (t u p m : ℕ) → u ≡ t % p → t < m → m ≤ lastState → u < lastState
+phase-early t u p m e h l = omega (arith, e, mod-le t p)
+
+pub phase-wraps : (u p : ℕ) → u + 1 ≡ p → 0 ≡ cond (eqb (u + 1) p) 0 (u + 1)
+phase-wraps u p e = rw (eq-eqb (u + 1) p e) refl
+
+pub phase-counts : (u p : ℕ) → (u + 1 ≡ p → ⊥) → u + 1 ≡ cond (eqb (u + 1) p) 0 (u + 1)
+phase-counts u p e = rw (ne-eqb (u + 1) p e) refl
 
 -- The remainder of the next number.
 pub mod-next : (t u p r : ℕ) → 0 < p → u ≡ t % p → r ≡ cond (eqb (u + 1) p) 0 (u + 1) → r ≡ (t + 1) % p
@@ -65,13 +85,47 @@ mod-next t u p r h e q = go (eqb (u + 1) p) refl q
         less : (u + 1 ≡ p → ⊥) → u < p → u + 1 < p
         less n b = elim (decLt (u + 1) p) [ yes k ↦ k | no k ↦ absurd (n (omega arith)) ]
 
+-- The states up to t hold as they should; r tells of state t.
+module _ (w : List ℕ) (j p t u : ℕ) (r : Bool) (phase : u ≡ t % p) (holds : r ≡ holdsAs w j t u) where
+  holds-so : holdsAs w j t (t % p) ≡ r
+  holds-so = ap (holdsAs w j t) (sym phase) ∙ sym holds
+
+  pub repeats-no : (m : ℕ) → t < m → not r ≡ true → false ≡ repeatsIn w m j p
+  repeats-no m h e = sym (allBelow-no m (λ x. holdsAs w j x (x % p)) t h (holds-so ∙ not-true r e))
+
+  pub repeats-more : repeatsIn w t j p ≡ true → not r ≡ false → repeatsIn w (t + 1) j p ≡ true
+  repeats-more h e = allBelow-more t (λ x. holdsAs w j x (x % p)) h (holds-so ∙ not-false r e)
+
+pub repeats-all : (w : List ℕ) (j p t m : ℕ) → t ≤ m → m ≤ t → repeatsIn w t j p ≡ true → true ≡ repeatsIn w m j p
+repeats-all w j p t m a b h = let e : t ≡ m = omega arith in sym (subst (λ (k : ℕ). repeatsIn w k j p ≡ true) e h)
+
 -- ---- the first generator
 
-pub period-found : (f : ℕ → Bool) (p : ℕ) → 1 ≤ p → p ≤ mostPhases → ((q : ℕ) → 1 ≤ q → q < p → f q ≡ false) → f p ≡ true → p ≡ smallPeriod (firstFrom 1 mostPhases f)
+pub generator-divides : (w : List ℕ) (m c j p : ℕ) (r : Bool) → c % p ≡ 0 → r ≡ repeatsIn w m j p → r ≡ generatorIn w m c j p
+generator-divides w m c j p r e h = rw (eq-eqb (c % p) 0 e) h
+
+pub generator-no : (w : List ℕ) (m c j p : ℕ) → (c % p ≡ 0 → ⊥) → false ≡ generatorIn w m c j p
+generator-no w m c j p e = rw (ne-eqb (c % p) 0 e) refl
+
+period-found : (f : ℕ → Bool) (p : ℕ) → 1 ≤ p → p ≤ mostPhases → ((q : ℕ) → 1 ≤ q → q < p → f q ≡ false) → f p ≡ true → p ≡ smallPeriod (firstFrom 1 mostPhases f)
 period-found f p a b h e = sym (rw (first-found 1 mostPhases f p a (omega arith) h e, le-leb p mostPhases b) refl)
 
-pub period-missing : (f : ℕ → Bool) → ((q : ℕ) → 1 ≤ q → q ≤ mostPhases → f q ≡ false) → 0 ≡ smallPeriod (firstFrom 1 mostPhases f)
+period-missing : (f : ℕ → Bool) → ((q : ℕ) → 1 ≤ q → q ≤ mostPhases → f q ≡ false) → 0 ≡ smallPeriod (firstFrom 1 mostPhases f)
 period-missing f h = sym (rw (first-none 1 mostPhases f (λ q a b. h q a (omega arith))) refl)
+
+-- No length below p is a generator's; r tells of length p.
+module _ (w : List ℕ) (m c j : ℕ) where
+  abbrev pub NoLength : ℕ → Type 0
+  NoLength p = (q : ℕ) → 1 ≤ q → q < p → generatorIn w m c j q ≡ false
+
+  pub length-found : (p : ℕ) (r : Bool) → 1 ≤ p → p ≤ mostPhases → NoLength p → r ≡ generatorIn w m c j p → r ≡ true → p ≡ periodIn w m c j
+  length-found p r a b h e t = period-found (generatorIn w m c j) p a b h (sym e ∙ t)
+
+  pub length-more : (p : ℕ) (r : Bool) → NoLength p → r ≡ generatorIn w m c j p → r ≡ false → NoLength (p + 1)
+  length-more p r h e t q a l = last-or q p (omega arith) (λ b. h q a b) (λ k. rw k (sym e ∙ t))
+
+  pub length-none : (p : ℕ) → mostPhases < p → NoLength p → 0 ≡ periodIn w m c j
+  length-none p l h = period-missing (generatorIn w m c j) (λ q a b. h q a (omega arith))
 
 -- The least number of which g holds, P, if it is 8 at most; 0 if there is none.
 least-small : (g : ℕ → Bool) (P : ℕ) → (0 < P → g P ≡ true) → (0 < P → (q : ℕ) → 0 < q → g q ≡ true → P ≤ q) → (P ≡ 0 → (q : ℕ) → 0 < q → g q ≡ true → ⊥) → smallPeriod (firstFrom 1 mostPhases g) ≡ smallPeriod P
@@ -96,12 +150,15 @@ module _ {rows : List Row} {w : List ℕ} (L : Lassoed rows w) where
   pub lasso-short : (lassoIn rows .stem + lassoIn rows .cycle ≤ lastState) × (0 < lassoIn rows .cycle)
   lasso-short = let e = is-lasso .repeat .earlier in (is-lasso .within, omega arith)
 
+  pub periods-start : PeriodPart rows w 0
+  periods-start = record { lassoed = L; periods = λ x h. absurd (omega arith) }
+
   module _ {i j : ℕ} (few : countIf isRegister rows ≤ mostOriginalRegisters) (within : i < length rows) (number : j ≡ registersBefore rows i) (register : isRegister (rowAt rows i) ≡ true) where
     -- What the memory holds of it in state t.
-    pub lasso-code : (t : ℕ) → t < lassoIn rows .stem + lassoIn rows .cycle → codeAt w (statePlace t) j ≡ codeOf (stateValue rows i t)
+    pub lasso-code : (t : ℕ) → t < lassoIn rows .stem + lassoIn rows .cycle → codeAt w (stateOffset t) j ≡ codeOf (stateValue rows i t)
     lasso-code t h =
-        ap (codeAt w (statePlace t)) number
-        ∙ packed-at w (statePlace t) (stateCodes rows t (length rows)) (L .states t h) (registersBefore rows i) (omega (arith, few, count-place isRegister constant rows i within register))
+        ap (codeAt w (stateOffset t)) number
+        ∙ packed-at w (stateOffset t) (stateCodes rows t (length rows)) (L .states t h) (registersBefore rows i) (omega (arith, few, count-place isRegister constant rows i within register))
         ∙ codes-at rows t (length rows) i (omega arith) within register
 
     generator-is : (p : ℕ) → generatorIn w (lassoIn rows .stem + lassoIn rows .cycle) (lassoIn rows .cycle) j p ≡ isGenerator rows (lassoIn rows) i p
@@ -127,29 +184,38 @@ module _ {rows : List Row} {w : List ℕ} (L : Lassoed rows w) where
   period-byte few within number x true r e = e ∙ register-period few within number r
   period-byte {i} few within number x false r e = e ∙ sym (rw (period-other rows (lassoIn rows) i r) refl)
 
+pub periods-all : {rows : List Row} {w : List ℕ} {i n : ℕ} → i ≤ n → n ≤ i → PeriodPart rows w i → PeriodPart rows w n
+periods-all {rows} {w} {i} {n} a b P = let e : i ≡ n = omega arith in subst (PeriodPart rows w) e P
+
 -- ---- row by row
 
 module _ {f : List ℕ} {n i j : ℕ} (A : AtRow f n i j) (r : Fields) (read : fieldsIn r ≡ readFields f i) {w : List ℕ} {m cycle : ℕ} (to : m ≡ lassoIn (netlistOf f) .stem + lassoIn (netlistOf f) .cycle) (round : cycle ≡ lassoIn (netlistOf f) .cycle) (P : PeriodPart (netlistOf f) w i) where
-  pub period-asks : isRegister (decodeRow (fieldsIn r)) ≡ true → (m ≤ lastState) × ((j < mostOriginalRegisters) × (foldWorkBytes ≤ length w))
-  period-asks e = (rw to (lasso-short (P .lassoed) .0), (register-small A r read e, P .lassoed .room))
+  pub states-few : m ≤ lastState
+  states-few = rw to (lasso-short (P .lassoed) .0)
 
-  pub period-more : (x : ℕ) (b : Bool) → isRegister (decodeRow (fieldsIn r)) ≡ b → x ≡ cond b (periodIn w m cycle j) 0 → ValuesKept w (set w (valuePlace i) x) × PeriodPart (netlistOf f) (set w (valuePlace i) x) (i + 1)
+  pub register-number : r .kind ≡ 2 → j < mostOriginalRegisters
+  register-number k = register-small A r read (register-yes A r read k)
+
+  period-more : (x : ℕ) (b : Bool) → isRegister (decodeRow (fieldsIn r)) ≡ b → x ≡ cond b (periodIn w m cycle j) 0 → PeriodPart (netlistOf f) (set w (valueOffset i) x) (i + 1)
   period-more x b e q =
       let s = row-small A in
       let room = P .lassoed .room in
-      let K : ValuesKept w (set w (valuePlace i) x) = kept-set (valuePlace 0) (valuePlace mostOriginalRows) (valuePlace i) x w (omega arith) (omega arith) in
-      let short = lasso-short (P .lassoed) .0 in
-      let here : byteAt (set w (valuePlace i) x) (valuePlace i) ≡ smallPeriod (periodOf (netlistOf f) (lassoIn (netlistOf f)) i) =
-      getD-set-same w (valuePlace i) x 0 (omega arith) ∙ period-byte (P .lassoed) (A .ready .rows .registers) (row-within A) (A .number) x b (register-is A r read ∙ e) (q ∙ rw (to, round) refl) in (
-        K,
-        record {
-          lassoed = record {
-            found = P .lassoed .found;
-            room = omega (arith, K .long);
-            states = λ t h. packed-values w (set w (valuePlace i) x) t (stateCodes (netlistOf f) t (length (netlistOf f))) (omega arith) K (P .lassoed .states t h);
-          };
-          periods = λ y l. last-or y i (omega arith)
-              (λ d. getD-set-other w (valuePlace i) (valuePlace y) x 0 (λ (z : valuePlace y ≡ valuePlace i). omega arith) ∙ P .periods y d)
-              (λ z. rw z here);
-        },
-      )
+      let K : ValuesKept w (set w (valueOffset i) x) = values-set A w x in
+      let here : byteAt (set w (valueOffset i) x) (valueOffset i) ≡ smallPeriod (periodOf (netlistOf f) (lassoIn (netlistOf f)) i) =
+      getD-set-same w (valueOffset i) x 0 (omega arith) ∙ period-byte (P .lassoed) (A .ready .rows .registers) (row-within A) (A .number) x b (register-is A r read ∙ e) (q ∙ rw (to, round) refl) in
+      record {
+        lassoed = record {
+          found = P .lassoed .found;
+          room = omega (arith, K .long);
+          states = λ t h. packed-values w (set w (valueOffset i) x) t (stateCodes (netlistOf f) t (length (netlistOf f))) K (P .lassoed .states t h);
+        };
+        periods = λ y l. last-or y i (omega arith)
+            (λ d. getD-set-other w (valueOffset i) (valueOffset y) x 0 (λ (z : valueOffset y ≡ valueOffset i). omega arith) ∙ P .periods y d)
+            (λ z. rw z here);
+      }
+
+  pub period-put : (x : ℕ) → r .kind ≡ 2 → x ≡ periodIn w m cycle j → PeriodPart (netlistOf f) (set w (valueOffset i) x) (i + 1)
+  period-put x k e = period-more x true (register-yes A r read k) e
+
+  pub no-period-put : (r .kind ≡ 2 → ⊥) → PeriodPart (netlistOf f) (set w (valueOffset i) 0) (i + 1)
+  no-period-put k = period-more 0 false (register-no A r read k) refl

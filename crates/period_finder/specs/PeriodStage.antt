@@ -14,7 +14,8 @@ use Rattle.netlist.specs.Limits.{mostPhases, foldWorkBytes}
 use Rattle.netlist.specs.Rows.{Row}
 use Rattle.lasso.specs.LassoSearch.{Lasso, findLasso}
 use Rattle.lasso.specs.Generators.{periodOf}
-use Rattle.ternary_step.specs.StateMap.{statePlace, valuePlace, codeAt, Stored}
+use Rattle.ternary_step.specs.StateMap.{codeAt, Stored}
+use Rattle.fold_memory.specs.WorkMap.{valueOffset, stateOffset}
 
 -- The lasso, where there is one.
 abbrev pub lassoOf : Option Lasso → Lasso
@@ -34,7 +35,7 @@ pub record Lassoed (rows : List Row) (w : List ℕ) : Type 0 where
 
 -- Register j is known in state t, and its code there is that in state u.
 abbrev pub holdsAs : List ℕ → ℕ → ℕ → ℕ → Bool
-holdsAs w j t u = ltb (codeAt w (statePlace t) j) 2 && eqb (codeAt w (statePlace t) j) (codeAt w (statePlace u) j)
+holdsAs w j t u = ltb (codeAt w (stateOffset t) j) 2 && eqb (codeAt w (stateOffset t) j) (codeAt w (stateOffset u) j)
 
 abbrev pub repeatsIn : List ℕ → ℕ → ℕ → ℕ → Bool
 repeatsIn w m j p = allBelow m (λ t. holdsAs w j t (t % p))
@@ -53,8 +54,8 @@ periodIn w m c j = smallPeriod (firstFrom 1 mostPhases (generatorIn w m c j))
 -- Each of the first i rows has its period in place of its value.
 pub record PeriodPart (rows : List Row) (w : List ℕ) (i : ℕ) : Type 0 where
   pub lassoed : Lassoed rows w
-  pub periods : (x : ℕ) → x < i → byteAt w (valuePlace x) ≡ smallPeriod (periodOf rows (lassoIn rows) x)
+  pub periods : (x : ℕ) → x < i → byteAt w (valueOffset x) ≡ smallPeriod (periodOf rows (lassoIn rows) x)
 
 -- The period bytes of the first n rows.
 abbrev pub periodBytes : List ℕ → ℕ → List ℕ
-periodBytes w n = tabulate n (λ i. byteAt w (valuePlace i))
+periodBytes w n = tabulate n (λ i. byteAt w (valueOffset i))

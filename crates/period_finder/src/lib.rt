@@ -1,7 +1,7 @@
 // The registers' periods and the phase count.
 ghost use mathlib.Core.Path.{_≡_};
 ghost use mathlib.Core.Bool.{cond};
-ghost use Prim.Native.Nat.{_+_, _*_, _<_, _≤_};
+ghost use Prim.Native.Nat.{_+_, _<_, _≤_};
 ghost use lib.Dec.{eqb};
 ghost use lib.ListN.{length};
 ghost use Rattle.memory.specs.Frames.{KeptOutside};
@@ -10,12 +10,11 @@ ghost use Rattle.netlist.specs.FileFormat.{netlistOf};
 ghost use Rattle.netlist.specs.WellFormed.{FoldableRows};
 ghost use Rattle.lasso.specs.Generators.{isUsed, usedCount, bestPhaseCount, phaseCount};
 ghost use Rattle.blockfile.specs.Ready.{Ready};
-ghost use Rattle.ternary_step.specs.StateMap.{valuePlace, registersBefore, AtRow};
+ghost use Rattle.ternary_step.specs.StateMap.{registersBefore, AtRow};
+ghost use Rattle.fold_memory.specs.WorkMap.{valueOffset};
 ghost use Rattle.period_finder.specs.PeriodStage.{lassoIn, Lassoed, holdsAs, repeatsIn, generatorIn, periodIn, PeriodPart, periodBytes};
-use ternary_step::HISTORY;
-use ternary_step::VALUES;
-
-const MOST_PHASES: usize = 8;
+use fold_memory::VALUES;
+use netlist::MOST_PHASES;
 
 // ---- periods
 
@@ -24,8 +23,8 @@ fn holds_as(work: &[u8], j: usize, t: usize, u: usize) -> bool
     requires { ⌜ (t < lastState) × ((u < lastState) × ((j < mostOriginalRegisters) × (foldWorkBytes ≤ length (now work)))) ⌝ }
     ensures { λ r. ⌜ r ≡ holdsAs (now (work .entry)) j t u ⌝ }
 {
-    let code = ternary_step::register_code(work, HISTORY + 64 * t, j);
-    let other = ternary_step::register_code(work, HISTORY + 64 * u, j);
+    let code = ternary_step::register_code(work, fold_memory::state_offset(t), j);
+    let other = ternary_step::register_code(work, fold_memory::state_offset(u), j);
     if code < 2 {
         return code == other;
     }
@@ -100,17 +99,17 @@ fn period_row(
 ) -> usize
     requires { ⌜ AtRow (now file) rows row j ⌝ }
     requires { ⌜ (m ≡ lassoIn (netlistOf (now file)) .stem + lassoIn (netlistOf (now file)) .cycle) × ((cycle ≡ lassoIn (netlistOf (now file)) .cycle) × PeriodPart (netlistOf (now file)) (now work) row) ⌝ }
-    ensures { λ r. ⌜ (r ≡ registersBefore (netlistOf (now (file .entry))) (row + 1)) × (KeptOutside (valuePlace 0) (valuePlace mostOriginalRows) (now (work .entry)) (now (work .exit)) × PeriodPart (netlistOf (now (file .entry))) (now (work .exit)) (row + 1)) ⌝ }
+    ensures { λ r. ⌜ (r ≡ registersBefore (netlistOf (now (file .entry))) (row + 1)) × (KeptOutside (valueOffset 0) (valueOffset mostOriginalRows) (now (work .entry)) (now (work .exit)) × PeriodPart (netlistOf (now (file .entry))) (now (work .exit)) (row + 1)) ⌝ }
 {
     let fields = blockfile::read_row(file, row);
     let kind = fields.kind;
-    let place = VALUES + row;
+    let offset = VALUES + row;
     if kind == 2 {
         let period = short_period(work, m, cycle, j);
-        work[place] = period;
+        work[offset] = period;
         return j + 1;
     }
-    work[place] = 0;
+    work[offset] = 0;
     j
 }
 
@@ -118,7 +117,7 @@ fn period_row(
 pub fn find_periods(file: &[u8], rows: usize, work: &mut [u8], stem: usize, cycle: usize)
     requires { ⌜ Ready FoldableRows (now file) rows ⌝ }
     requires { ⌜ (stem ≡ lassoIn (netlistOf (now file)) .stem) × ((cycle ≡ lassoIn (netlistOf (now file)) .cycle) × Lassoed (netlistOf (now file)) (now work)) ⌝ }
-    ensures { λ _. ⌜ KeptOutside (valuePlace 0) (valuePlace mostOriginalRows) (now (work .entry)) (now (work .exit)) × PeriodPart (netlistOf (now (file .entry))) (now (work .exit)) rows ⌝ }
+    ensures { λ _. ⌜ KeptOutside (valueOffset 0) (valueOffset mostOriginalRows) (now (work .entry)) (now (work .exit)) × PeriodPart (netlistOf (now (file .entry))) (now (work .exit)) rows ⌝ }
 {
     let m = stem + cycle;
     let mut i = 0;

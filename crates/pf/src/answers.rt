@@ -5,10 +5,10 @@ use crate::outcome::Outcome;
 use crate::outcome::done_with;
 use crate::outcome::fail_at;
 use crate::outcome::finish;
+use c_answers::PfCounts;
+use c_answers::PfRefusal;
 use listing::rows::put_rows;
 use listing::rows::row_count;
-use phasefold::foreign::PfCounts;
-use phasefold::foreign::PfRefusal;
 use text::numbers::Number;
 use text::out::none;
 use text::out::put_byte;
@@ -19,7 +19,7 @@ use text::out::to;
 
 // Whether the file is accepted.
 pub fn check(file: &[u8]) -> Outcome {
-    let refusal = phasefold::foreign::pf_check(file);
+    let refusal = phasefold::c_check::pf_check(file);
     if refusal.number == 0 {
         done_with(b"accepted\n", none())
     } else {
@@ -52,7 +52,7 @@ pub fn count_refusal(counts: PfCounts) -> PfRefusal {
 
 // How many rows of each sort the file has.
 pub fn count(file: &[u8]) -> Outcome {
-    let counts = phasefold::foreign::pf_count(file);
+    let counts = phasefold::c_count::pf_count(file);
     if counts.number == 0 {
         tell_counts(counts)
     } else {
@@ -120,7 +120,7 @@ fn tell_rows(file: &[u8]) -> Outcome {
 
 // All rows of an accepted file.
 pub fn rows(file: &[u8]) -> Outcome {
-    let refusal = phasefold::foreign::pf_check(file);
+    let refusal = phasefold::c_check::pf_check(file);
     if refusal.number == 0 {
         tell_rows(file)
     } else {

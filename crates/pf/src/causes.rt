@@ -1,14 +1,14 @@
 // A refusal told: its line on standard output, and on standard error a sentence that says what is wrong where, with the values seen.
-use crate::blocks::say_block_cause;
+use crate::block_causes::say_block_cause;
 use crate::outcome::Outcome;
 use crate::outcome::say;
 use crate::outcome::say_text;
 use crate::outcome::tell_refusal;
 use crate::row_causes::say_row_cause;
+use c_answers::PfRefusal;
 use listing::rows::fields_of;
 use listing::rows::last_block;
 use listing::rows::row_count;
-use phasefold::foreign::PfRefusal;
 use text::out::one;
 use text::out::two;
 
@@ -36,7 +36,7 @@ fn say_many_rows(file: &[u8]) {
 
 // How many registers an accepted file has.
 fn register_count(file: &[u8]) -> usize {
-    let counts = phasefold::foreign::pf_count(file);
+    let counts = phasefold::c_count::pf_count(file);
     counts.registers as usize
 }
 

@@ -1,7 +1,7 @@
 // The command pf: Check, Count, Show, Fold and Run of netlist files, their rows as text and back, and clocks drawn.
 // Its outcome goes to descriptor 3 as a digit, for the script that starts it.
 mod answers;
-mod blocks;
+mod block_causes;
 mod call;
 mod causes;
 mod folding;

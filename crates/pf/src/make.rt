@@ -106,7 +106,7 @@ fn save(path: &[u8], file: &[u8]) -> Outcome {
 
 // An accepted file is written to the path.
 fn save_accepted(path: &[u8], file: &[u8]) -> Outcome {
-    let refusal = phasefold::foreign::pf_check(file);
+    let refusal = phasefold::c_check::pf_check(file);
     if refusal.number == 0 {
         save(path, file)
     } else {
@@ -122,7 +122,7 @@ fn seal(result: &mut [u8], rows: usize) -> usize {
     let count = rows as u32;
     let size = file_bytes(count);
     if size <= result.len() {
-        blockfile::writer::write_file(result, rows);
+        blocks::writer::write_file(result, rows);
     }
     size
 }

@@ -1,6 +1,6 @@
 // What came of a call, and what is told of it.
+use c_answers::PfRefusal;
 use listing::refusals::put_refusal;
-use phasefold::foreign::PfRefusal;
 use text::out::Out;
 use text::out::flush;
 use text::out::tell;

@@ -192,7 +192,7 @@ fn fields_in(numbers: &[u32]) -> Fields
 // The row of these numbers, at its place.
 fn put_fields(result: &mut [u8], row: usize, numbers: &[u32]) {
     if row < MOST_ROWS {
-        let place = blockfile::row_place(row);
+        let place = blockfile::row_offset(row);
         let end = place + 8;
         if end <= result.len() {
             blockfile::write_row(result, row, fields_in(numbers));

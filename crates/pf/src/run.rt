@@ -10,8 +10,8 @@ use crate::outcome::finish;
 use crate::outcome::say;
 use crate::outcome::say_text;
 use crate::outcome::tell_refusal;
-use phasefold::foreign::PfCounts;
-use phasefold::foreign::PfRefusal;
+use c_answers::PfCounts;
+use c_answers::PfRefusal;
 use text::bytes::first;
 use text::bytes::get;
 use text::bytes::is_blank;
@@ -184,7 +184,7 @@ fn run_into(
     let mut work = work_room();
     let choices = first(values, unknown);
     let inputs = rest(values, unknown);
-    phasefold::foreign::pf_run(file, steps, choices, inputs, result, &mut work)
+    phasefold::c_run::pf_run(file, steps, choices, inputs, result, &mut work)
 }
 
 // A run's outputs, or its refusal.
@@ -216,7 +216,7 @@ fn run_accepted(file: &[u8], steps: u32, word: &[u8], values: &[u8], counts: PfC
 
 // The run on these values, or the refusal of the file.
 fn run_values(file: &[u8], steps: u32, word: &[u8], values: &[u8]) -> Outcome {
-    let counts = phasefold::foreign::pf_count(file);
+    let counts = phasefold::c_count::pf_count(file);
     if counts.number == 0 {
         run_accepted(file, steps, word, values, counts)
     } else {

@@ -1,6 +1,3 @@
--- Laws of the operations' answers.
-pub mod AnswerLaws
-pub mod ShowLaws
+-- Laws of what C callers get.
 pub mod ForeignLaws
-pub mod FoldedLaws
-pub mod ForeignFoldLaws
+pub mod ShownFlatLaws

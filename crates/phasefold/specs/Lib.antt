@@ -1,6 +1,2 @@
--- What the public operations promise.
-pub mod Answers
-pub mod Outcomes
+-- What C callers are promised.
 pub mod ForeignAnswers
-pub mod FoldedOutcome
-pub mod ForeignFold

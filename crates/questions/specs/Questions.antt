@@ -1,11 +1,10 @@
 -- The scope paper's "Questions, in order", each a test, and the refusal of each operation from its arguments alone: bytes, numbers and lengths.
 -- A refusal is the number of the first question answered with no, and its place: the block for 2 to 5, the row for 6 to 9 and 13, else 0.
--- Interface: Refusal, noRefusal, fileRefusal (1 to 10), foldRefusal (1 to 16), runRefusal (1 to 10, 17 to 20), showRefusal (1 to 10, 21), Counts, countsOf.
+-- Interface: Refusal, noRefusal, unlessRefused, fileRefusal (1 to 10), runRefusal (1 to 10, 17 to 20), showRefusal (1 to 10, 21), Counts, countsOf.
 -- Assumes nothing.
 use Prim.Native.Nat.{ℕ, zero, suc, _+_, _-_, _*_, _/_, _%_, _^_}
-use mathlib.Core.Bool.{Bool, true, false, cond, not, _&&_, _||_}
-use mathlib.Core.List.{List, [], _∷_, _++_, map}
-use mathlib.Core.Option.{none, some}
+use mathlib.Core.Bool.{Bool, true, cond, not, _&&_, _||_}
+use mathlib.Core.List.{List, [], _∷_, map}
 use lib.ListN.{length}
 use lib.Dec.{eqb, ltb, leb}
 use Rattle.memory.specs.Lists.{allBelow, firstFrom, countIf}
@@ -21,6 +20,10 @@ pub record Refusal : Type 0 where
 
 abbrev pub noRefusal : Refusal
 noRefusal = record { number = 0; place = 0 }
+
+-- What an operation leaves: x unless there is a refusal, and then the other.
+abbrev pub unlessRefused : {A : Type 0} → Refusal → A → A → A
+unlessRefused q x other = cond (eqb (q .number) 0) x other
 
 -- The first of these that is a refusal.
 abbrev pub firstRefusal : List Refusal → Refusal

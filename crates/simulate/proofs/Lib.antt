@@ -1,8 +1,6 @@
--- Laws of Run's steps: bits, bytes written, places among the rows, a row's value, the passes over the rows and the walk over blocks, the run, and what it is given.
-pub mod BitLaws
+-- Laws of Run's steps: bytes written, places among the rows, the passes over the rows and the walk over blocks, the run, and what it is given.
 pub mod WriteLaws
 pub mod PlaceLaws
-pub mod RowValueLaws
 pub mod PassLaws
 pub mod WalkLaws
 pub mod RunLaws

@@ -1,14 +1,14 @@
 -- The passes over the rows: what each asks of a row and leaves after one row more.
 -- Assumes nothing.
-use Prim.Native.Nat.{ℕ, _+_, _-_, _<_, _≤_, _/_}
+use Prim.Native.Nat.{ℕ, _+_, _-_, _<_, _≤_, _/_, _^_}
 use mathlib.Core.Path.{_≡_, refl, sym, ap, _∙_}
 use mathlib.Core.Bool.{Bool, true, false, cond}
-use mathlib.Core.Logic.{inl, inr, ⊎-elim}
+use mathlib.Core.Logic.{⊎-elim}
 use mathlib.Core.List.{List, [], _∷_, _++_, map, map-append}
 use native.Mathlib.Omega.{arith}
 use native.Mathlib.Numerals.{add-one}
 use lib.Dec.{eqb}
-use lib.ListN.{length, getD, set, take, length-map, length-set, List·getD-map}
+use lib.ListN.{length, set, take, length-map, length-set, List·getD-map}
 use lib.Seq.{sets, length-sets, take-all}
 use borrow.Author.Tests.{eq-eqb}
 use Rattle.memory.specs.Lists.{countIf}
@@ -24,12 +24,14 @@ use Rattle.netlist.proofs.RowLaws.{next-wider}
 use Rattle.netlist.proofs.SimulationLaws.{literal-cong, row-cong, values-length}
 use Rattle.blockfile.proofs.CountLaws.{count-next, count-some-le, count-place}
 use Rattle.blockfile.specs.Ready.{Ready}
-use Rattle.simulate.specs.Values.{IsBinary, bit, truthAt, bitFrom, bitByte, bitBytes, heldIn, stateFrom, stepInputs, resetChoices, valuesBefore, valuesFrom}
-use Rattle.simulate.specs.Steps.{RowToRun, ValuesRoom, TwoHalves}
-use Rattle.simulate.proofs.BitLaws.{bytes-at, bits-at, binary-set, binary-sets}
+use Rattle.row_values.specs.Values.{IsBinary, bit, truthAt, bitFrom, bitByte, bitBytes, heldIn, valueIn, RowToRun}
+use Rattle.row_values.specs.declared.Step.{Step}
+use Rattle.row_values.proofs.BitLaws.{bytes-at, bits-at, binary-set, binary-sets}
+use Rattle.row_values.proofs.RowValueLaws.{input-is}
+use Rattle.simulate.specs.StepValues.{stateFrom, stepInputs, resetChoices, valuesBefore, stepFrom}
+use Rattle.simulate.specs.Steps.{ValuesRoom, TwoHalves, InputsFit, ValuesStand}
 use Rattle.simulate.proofs.WriteLaws.{put-last, put-next}
 use Rattle.simulate.proofs.PlaceLaws.{input-place, register-place}
-use Rattle.simulate.proofs.RowValueLaws.{input-is}
 
 -- ---- what a row depends on
 
@@ -65,18 +67,14 @@ choice-cong u u′ (output _ _ _) e = refl
 -- ---- memory
 
 -- Written with values, memory is as ready as it was.
-pub work-written : (n half : ℕ) (v w : List ℕ) (o : ℕ) (xs : List ℕ) → ValuesRoom n half v → IsBinary xs → w ≡ sets v o xs → ValuesRoom n half w
-work-written n half v w o xs W b e = rw e (record { rows-fit = W .rows-fit; halves-fit = omega (arith, W .halves-fit, length-sets v o xs); binary = binary-sets v o xs (W .binary) b })
+pub room-written : (n : ℕ) (v w : List ℕ) (o : ℕ) (xs : List ℕ) → ValuesRoom n v → IsBinary xs → w ≡ sets v o xs → ValuesRoom n w
+room-written n v w o xs W b e = rw e (record { fits = omega (arith, W .fits, length-sets v o xs); binary = binary-sets v o xs (W .binary) b })
 
--- One value more, or values, written: the halves are as ready as they were.
-pub halves-set : (n current previous : ℕ) (v : List ℕ) (i x : ℕ) → TwoHalves n current previous v → x ≤ 1 → TwoHalves n current previous (set v i x)
-halves-set n current previous v i x H h = record { current-fits = omega (arith, H .current-fits, length-set v i x); previous-fits = omega (arith, H .previous-fits, length-set v i x); apart = H .apart; binary = binary-set v i x (H .binary) h }
+pub halves-set : (n : ℕ) (s : Step) (v : List ℕ) (i x : ℕ) → TwoHalves n s v → x ≤ 1 → TwoHalves n s (set v i x)
+halves-set n s v i x H h = record { current-fits = omega (arith, H .current-fits, length-set v i x); previous-fits = omega (arith, H .previous-fits, length-set v i x); apart = H .apart; binary = binary-set v i x (H .binary) h }
 
-pub halves-written : (n current previous : ℕ) (v w : List ℕ) (o : ℕ) (xs : List ℕ) → TwoHalves n current previous v → IsBinary xs → w ≡ sets v o xs → TwoHalves n current previous w
-halves-written n current previous v w o xs H b e = rw e (record { current-fits = omega (arith, H .current-fits, length-sets v o xs); previous-fits = omega (arith, H .previous-fits, length-sets v o xs); apart = H .apart; binary = binary-sets v o xs (H .binary) b })
-
-pub halves-turned : (n current previous : ℕ) (w : List ℕ) → TwoHalves n current previous w → TwoHalves n previous current w
-halves-turned n current previous w H = record { current-fits = H .previous-fits; previous-fits = H .current-fits; apart = ⊎-elim inr inl (H .apart); binary = H .binary }
+pub halves-written : (n : ℕ) (s : Step) (v w : List ℕ) (o : ℕ) (xs : List ℕ) → TwoHalves n s v → IsBinary xs → w ≡ sets v o xs → TwoHalves n s w
+halves-written n s v w o xs H b e = rw e (record { current-fits = omega (arith, H .current-fits, length-sets v o xs); previous-fits = omega (arith, H .previous-fits, length-sets v o xs); apart = H .apart; binary = binary-sets v o xs (H .binary) b })
 
 module _ (f : List ℕ) (n : ℕ) (N : Ready CheckedRows f n) where
   in-rows : (i : ℕ) → i < n → i < length (netlistOf f)
@@ -93,93 +91,94 @@ module _ (f : List ℕ) (n : ℕ) (N : Ready CheckedRows f n) where
 
   -- ---- evaluate
 
-  module _ (base i place : ℕ) (h : i < n) (ep : place ≡ rowOffset i) where
-    kind-input : isInput (rowAt (netlistOf f) i) ≡ eqb (byteAt f place) 1
-    kind-input = input-is f i (row-ready i h) place ep
+  module _ (i offset : ℕ) (h : i < n) (eo : offset ≡ rowOffset i) where
+    kind-input : isInput (rowAt (netlistOf f) i) ≡ eqb (byteAt f offset) 1
+    kind-input = input-is f i (row-ready i h) offset eo
 
     -- k inputs stand before row i.
-    module _ (inputs : List ℕ) (k : ℕ) (ek : k ≡ placeAmong isInput (netlistOf f) i) (fit : base + countIf isInput (netlistOf f) ≤ length inputs) where
-      pub input-there : byteAt f place ≡ 1 → base + k < length inputs
-      input-there e = omega (arith, count-place isInput constant (netlistOf f) i (in-rows i h) (kind-input ∙ eq-eqb (byteAt f place) 1 e))
+    module _ (k : ℕ) (ek : k ≡ placeAmong isInput (netlistOf f) i) where
+      pub input-there : (inputs : List ℕ) (s : Step) → InputsFit f inputs s → byteAt f offset ≡ 1 → s .base + k < length inputs
+      input-there inputs s I e = omega (arith, I .count, count-place isInput constant (netlistOf f) i (in-rows i h) (kind-input ∙ eq-eqb (byteAt f offset) 1 e))
 
-      pub input-next : (o : ℕ) → o ≡ cond (eqb (byteAt f place) 1) 1 0 → k + o ≡ placeAmong isInput (netlistOf f) (i + 1)
-      input-next o eo =
-          let q : o ≡ cond {A = ℕ} (isInput (rowAt (netlistOf f) i)) 1 0 = eo ∙ ap (λ (b : Bool). cond {A = ℕ} b 1 0) (sym kind-input) in
+      pub input-next : (o : ℕ) → o ≡ cond (eqb (byteAt f offset) 1) 1 0 → k + o ≡ placeAmong isInput (netlistOf f) (i + 1)
+      input-next o e =
+          let q : o ≡ cond {A = ℕ} (isInput (rowAt (netlistOf f) i)) 1 0 = e ∙ ap (λ (b : Bool). cond {A = ℕ} b 1 0) (sym kind-input) in
           omega (arith, count-next isInput constant (netlistOf f) i (in-rows i h))
-
-      pub input-fits : (o : ℕ) → o ≡ cond (eqb (byteAt f place) 1) 1 0 → base + (k + o) ≤ length inputs
-      input-fits o eo = omega (arith, input-next o eo, count-some-le isInput constant (netlistOf f) (i + 1) .1)
 
   pub next-below : (o m i : ℕ) → o + n ≤ m → i < n → NextBelow (m - o) (rowAt (netlistOf f) i)
   next-below o m i fits h = next-wider (length (netlistOf f)) (m - o) (omega (arith, N .file .count)) (rowAt (netlistOf f) i) (N .rows .nexts i (in-rows i h))
 
-  -- Memory v at the step's start.
-  module _ (inputs : List ℕ) (base current previous : ℕ) (initial : Bool) (v : List ℕ) where
+  -- Memory v at the start of the step s.
+  module _ (inputs : List ℕ) (s : Step) (v : List ℕ) where
     abbrev values : ℕ → List Bool
-    values i = valuesBefore (netlistOf f) inputs base (stateFrom (netlistOf f) v previous initial) i
+    values i = valuesBefore (netlistOf f) inputs v s i
 
-    pub evaluate-none : v ≡ sets v current (bitBytes (values 0))
+    pub evaluate-none : ValuesStand f inputs s v 0 v
     unfolding valuesUpTo
-    evaluate-none = refl
+    evaluate-none = record { values = refl }
 
     -- Memory w after i rows.
-    module _ (i : ℕ) (w : List ℕ) (H : TwoHalves n current previous w) (ew : w ≡ sets v current (bitBytes (values i))) where
+    module _ (i : ℕ) (w : List ℕ) (H : TwoHalves n s w) (Q : ValuesStand f inputs s v i w) where
       same-room : length w ≡ length v
-      same-room = ap length ew ∙ length-sets v current (bitBytes (values i))
+      same-room = ap length (Q .values) ∙ length-sets v (s .current) (bitBytes (values i))
 
       written : length (bitBytes (values i)) ≡ i
-      written = length-map (values i) bitByte ∙ values-length boolLogic (netlistOf f) (stateFrom (netlistOf f) v previous initial) (stepInputs (netlistOf f) inputs base) i
+      written = length-map (values i) bitByte ∙ values-length boolLogic (netlistOf f) (stateFrom (netlistOf f) v s) (stepInputs (netlistOf f) inputs (s .base)) i
 
       module _ (h : i < n) where
-        fits : current + length (bitBytes (values i)) ≤ length v
+        fits : s .current + length (bitBytes (values i)) ≤ length v
         fits = omega (arith, written, same-room, H .current-fits)
 
         -- The last step's values stay.
-        previous-is : (j : ℕ) → j < n → bitFrom w previous j ≡ bitFrom v previous j
+        previous-is : (j : ℕ) → j < n → bitFrom w (s .previous) j ≡ bitFrom v (s .previous) j
         previous-is j l =
-            ap bit (ap (λ (l : List ℕ). byteAt l (previous + j)) ew
+            ap bit (ap (λ (l : List ℕ). byteAt l (s .previous + j)) (Q .values)
             ∙ ⊎-elim
-            (λ (a : current + n ≤ previous). kept-sets current (current + length (bitBytes (values i))) (bitBytes (values i)) v current (omega arith) (omega arith) .after (previous + j) (omega (arith, written)))
-            (λ (a : previous + n ≤ current). kept-sets current (current + length (bitBytes (values i))) (bitBytes (values i)) v current (omega arith) (omega arith) .before (previous + j) (omega arith))
+            (λ (a : s .current + n ≤ s .previous). kept-sets (s .current) (s .current + length (bitBytes (values i))) (bitBytes (values i)) v (s .current) (omega arith) (omega arith) .after (s .previous + j) (omega (arith, written)))
+            (λ (a : s .previous + n ≤ s .current). kept-sets (s .current) (s .current + length (bitBytes (values i))) (bitBytes (values i)) v (s .current) (omega arith) (omega arith) .before (s .previous + j) (omega arith))
             (H .apart))
 
-        held-is : heldIn w previous initial i (rowAt (netlistOf f) i) ≡ valueAt boolLogic (stateFrom (netlistOf f) v previous initial) i
+        held-is : heldIn w s i (rowAt (netlistOf f) i) ≡ valueAt boolLogic (stateFrom (netlistOf f) v s) i
         held-is =
-            held-cong initial
-            ∙ sym (tabulate-at (length (netlistOf f)) (λ j. heldIn v previous initial j (rowAt (netlistOf f) j)) i false (in-rows i h))
+            held-cong (s .initial)
+            ∙ sym (tabulate-at (length (netlistOf f)) (λ j. heldIn v s j (rowAt (netlistOf f) j)) i false (in-rows i h))
           where
-            held-cong : (t : Bool) → heldIn w previous t i (rowAt (netlistOf f) i) ≡ heldIn v previous t i (rowAt (netlistOf f) i)
+            held : List ℕ → Bool → Bool
+            held u t = cond t (bitFrom u (s .previous) i) (nextValue boolLogic (bitFrom u (s .previous)) (rowAt (netlistOf f) i))
+
+            held-cong : (t : Bool) → held w t ≡ held v t
             held-cong true = previous-is i h
-            held-cong false = next-cong (bitFrom w previous) (bitFrom v previous) (length (netlistOf f)) (λ j l. previous-is j (omega (arith, N .file .count))) (rowAt (netlistOf f) i) (N .rows .nexts i (in-rows i h))
+            held-cong false = next-cong (bitFrom w (s .previous)) (bitFrom v (s .previous)) (length (netlistOf f)) (λ j l. previous-is j (omega (arith, N .file .count))) (rowAt (netlistOf f) i) (N .rows .nexts i (in-rows i h))
 
-        value-is : (j : ℕ) → j < i → bitFrom w current j ≡ valueAt boolLogic (values i) j
-        value-is j l = ap bit (ap (λ (l : List ℕ). byteAt l (current + j)) ew ∙ sets-at (bitBytes (values i)) v current j (omega (arith, written)) fits) ∙ bits-at (values i) j
+        value-is : (j : ℕ) → j < i → bitFrom w (s .current) j ≡ valueAt boolLogic (values i) j
+        value-is j l = ap bit (ap (λ (l : List ℕ). byteAt l (s .current + j)) (Q .values) ∙ sets-at (bitBytes (values i)) v (s .current) j (omega (arith, written)) fits) ∙ bits-at (values i) j
 
-        input-is-at : (k : ℕ) → k ≡ placeAmong isInput (netlistOf f) i → (l p : ℕ) → rowAt (netlistOf f) i ≡ input l p → truthAt inputs (base + k) ≡ stepInputs (netlistOf f) inputs base l p
-        input-is-at k ek l p e = ap (bitFrom inputs base) (ek ∙ ap (placeAmong isInput (netlistOf f)) (sym (input-place (netlistOf f) (N .rows .unique) i (in-rows i h) l p e)))
+        input-is-at : (k : ℕ) → k ≡ placeAmong isInput (netlistOf f) i → (l p : ℕ) → rowAt (netlistOf f) i ≡ input l p → truthAt inputs (s .base + k) ≡ stepInputs (netlistOf f) inputs (s .base) l p
+        input-is-at k ek l p e = ap (bitFrom inputs (s .base)) (ek ∙ ap (placeAmong isInput (netlistOf f)) (sym (input-place (netlistOf f) (N .rows .unique) i (in-rows i h) l p e)))
 
-        pub evaluate-more : (k x : ℕ) → k ≡ placeAmong isInput (netlistOf f) i → x ≡ bitByte (rowValue boolLogic (heldIn w previous initial i (rowAt (netlistOf f) i)) (λ l p. truthAt inputs (base + k)) (bitFrom w current) (rowAt (netlistOf f) i))
-            → set w (current + i) x ≡ sets v current (bitBytes (values (i + 1)))
+        pub evaluate-more : (k x : ℕ) → k ≡ placeAmong isInput (netlistOf f) i → x ≡ bitByte (valueIn w inputs s k i (rowAt (netlistOf f) i)) → ValuesStand f inputs s v (i + 1) (set w (s .current + i) x)
         unfolding valuesUpTo
         evaluate-more k x ek ex =
             let rows = netlistOf f in
             let r = rowAt rows i in
-            let s = stateFrom rows v previous initial in
-            let u = stepInputs rows inputs base in
-            let y = rowValue boolLogic (valueAt boolLogic s i) u (valueAt boolLogic (values i)) r in
-            let value : rowValue boolLogic (heldIn w previous initial i r) (λ l p. truthAt inputs (base + k)) (bitFrom w current) r ≡ y =
-            ap (λ (t : Bool). rowValue boolLogic t (λ l p. truthAt inputs (base + k)) (bitFrom w current) r) held-is
-            ∙ input-cong (valueAt boolLogic s i) (λ l p. truthAt inputs (base + k)) u (bitFrom w current) r (input-is-at k ek)
-            ∙ row-cong boolLogic (valueAt boolLogic s i) u (bitFrom w current) (valueAt boolLogic (values i)) i value-is r (N .rows .operands i (in-rows i h)) in
-            put-last w v (bitBytes (values i)) current (current + i) x ew (omega (arith, written))
-            ∙ ap (λ (z : ℕ). sets v current (bitBytes (values i) ++ (z ∷ []))) (ex ∙ ap bitByte value)
-            ∙ ap (λ (l : List ℕ). sets v current l) (sym (map-append bitByte (values i) (y ∷ [])))
-            ∙ ap (λ (m : ℕ). sets v current (bitBytes (values m))) (sym (add-one i))
+            let t = stateFrom rows v s in
+            let u = stepInputs rows inputs (s .base) in
+            let y = rowValue boolLogic (valueAt boolLogic t i) u (valueAt boolLogic (values i)) r in
+            let value : valueIn w inputs s k i r ≡ y =
+            ap (λ (b : Bool). rowValue boolLogic b (λ l p. truthAt inputs (s .base + k)) (bitFrom w (s .current)) r) held-is
+            ∙ input-cong (valueAt boolLogic t i) (λ l p. truthAt inputs (s .base + k)) u (bitFrom w (s .current)) r (input-is-at k ek)
+            ∙ row-cong boolLogic (valueAt boolLogic t i) u (bitFrom w (s .current)) (valueAt boolLogic (values i)) i value-is r (N .rows .operands i (in-rows i h)) in
+            record {
+              values = put-last w v (bitBytes (values i)) (s .current) (s .current + i) x (Q .values) (omega (arith, written))
+                  ∙ ap (λ (z : ℕ). sets v (s .current) (bitBytes (values i) ++ (z ∷ []))) (ex ∙ ap bitByte value)
+                  ∙ ap (λ (l : List ℕ). sets v (s .current) l) (sym (map-append bitByte (values i) (y ∷ [])))
+                  ∙ ap (λ (m : ℕ). sets v (s .current) (bitBytes (values m))) (sym (add-one i));
+            }
 
     -- All rows.
-    pub evaluate-all : (w : List ℕ) → w ≡ sets v current (bitBytes (values n)) → w ≡ sets v current (bitBytes (valuesFrom (netlistOf f) inputs base (stateFrom (netlistOf f) v previous initial)))
+    pub evaluate-all : (w : List ℕ) → ValuesStand f inputs s v n w → w ≡ sets v (s .current) (bitBytes (stepFrom (netlistOf f) inputs v s))
     unfolding stepValues
-    evaluate-all w ew = ew ∙ ap (λ (m : ℕ). sets v current (bitBytes (values m))) (N .file .count)
+    evaluate-all w Q = Q .values ∙ ap (λ (m : ℕ). sets v (s .current) (bitBytes (values m))) (N .file .count)
 
   -- ---- start
 
@@ -190,30 +189,32 @@ module _ (f : List ℕ) (n : ℕ) (N : Ready CheckedRows f n) where
     pub choice-next : (o : ℕ) → o ≡ cond (isUnknown (rowAt (netlistOf f) i)) 1 0 → k + o ≡ placeAmong isUnknown (netlistOf f) (i + 1)
     choice-next o eo = omega (arith, count-next isUnknown constant (netlistOf f) i (in-rows i h))
 
-    pub choice-most : k ≤ i
-    choice-most = omega (arith, count-some-le isUnknown constant (netlistOf f) i .0)
+    pub choice-small : (o : ℕ) → o ≤ 1 → k + o < 2 ^ 64
+    choice-small o l = omega (arith, count-some-le isUnknown constant (netlistOf f) i .0, N .file .few)
 
-  -- The byte of each row from `half` on.
-  module _ (F : Row → Bool) (low : F constant ≡ false) where
-    row-bytes-length : length (bitBytes (map F (netlistOf f))) ≡ n
-    row-bytes-length = length-map (map F (netlistOf f)) bitByte ∙ length-map (netlistOf f) F ∙ sym (N .file .count)
-
-    row-byte : (i : ℕ) → byteAt (bitBytes (map F (netlistOf f))) i ≡ bitByte (F (rowAt (netlistOf f) i))
-    row-byte i = bytes-at (map F (netlistOf f)) i ∙ ap bitByte (ap (λ (d : Bool). getD (map F (netlistOf f)) i d) (sym low) ∙ List·getD-map F (netlistOf f) i constant)
-
-    module _ (half : ℕ) (v : List ℕ) (W : ValuesRoom n half v) (i : ℕ) (w : List ℕ) (h : i < n) (ew : w ≡ sets v half (take i (bitBytes (map F (netlistOf f))))) where
-      pub hold-more : (p x : ℕ) → p ≡ half + i → x ≡ bitByte (F (rowAt (netlistOf f) i)) → set w p x ≡ sets v half (take (i + 1) (bitBytes (map F (netlistOf f))))
-      hold-more p x ep ex = put-next w v (bitBytes (map F (netlistOf f))) half i p x ew (omega (arith, row-bytes-length)) ep (ex ∙ sym (row-byte i))
-
-    -- All rows.
-    pub hold-all : (half : ℕ) (v w : List ℕ) (i : ℕ) → i ≡ n → w ≡ sets v half (take i (bitBytes (map F (netlistOf f)))) → w ≡ sets v half (bitBytes (map F (netlistOf f)))
-    hold-all half v w i e ew = ew ∙ ap (λ (l : List ℕ). sets v half l) (take-all i (bitBytes (map F (netlistOf f))) (omega (arith, row-bytes-length)))
-
-  module _ (half : ℕ) (v : List ℕ) (W : ValuesRoom n half v) (i : ℕ) (w : List ℕ) (h : i < n) (choices : List ℕ) (k : ℕ) (ek : k ≡ placeAmong isUnknown (netlistOf f) i) where
+  module _ (choices : List ℕ) where
+    -- What each row starts as.
     abbrev startIn : Row → Bool
     startIn = resetValue boolLogic (resetChoices (netlistOf f) choices)
 
-    pub start-more : (p x : ℕ) → w ≡ sets v half (take i (bitBytes (map startIn (netlistOf f)))) → p ≡ half + i → x ≡ bitByte (resetValue boolLogic (λ l. truthAt choices k) (rowAt (netlistOf f) i)) → set w p x ≡ sets v half (take (i + 1) (bitBytes (map startIn (netlistOf f))))
-    start-more p x ew ep ex =
-        hold-more startIn refl half v W i w h ew p x ep
-        (ex ∙ ap bitByte (choice-cong (λ l. truthAt choices k) (resetChoices (netlistOf f) choices) (rowAt (netlistOf f) i) (λ s m l e. ap (truthAt choices) (ek ∙ ap (placeAmong isUnknown (netlistOf f)) (sym (register-place (netlistOf f) (N .rows .unique) i (in-rows i h) s m l e))))))
+    abbrev startBytes : List ℕ
+    startBytes = bitBytes (map startIn (netlistOf f))
+
+    bytes-length : length startBytes ≡ n
+    bytes-length = length-map (map startIn (netlistOf f)) bitByte ∙ length-map (netlistOf f) startIn ∙ sym (N .file .count)
+
+    byte-is : (i : ℕ) → byteAt startBytes i ≡ bitByte (startIn (rowAt (netlistOf f) i))
+    byte-is i = bytes-at (map startIn (netlistOf f)) i ∙ ap bitByte (List·getD-map startIn (netlistOf f) i constant)
+
+    -- Memory w, which was v, has the bytes of the first i rows from n on.
+    module _ (v w : List ℕ) (i : ℕ) (ew : w ≡ sets v n (take i startBytes)) where
+      pub start-more : i < n → (k x : ℕ) → k ≡ placeAmong isUnknown (netlistOf f) i → x ≡ bitByte (resetValue boolLogic (λ l. truthAt choices k) (rowAt (netlistOf f) i)) → set w (n + i) x ≡ sets v n (take (i + 1) startBytes)
+      start-more h k x ek ex =
+          put-next w v startBytes n i (n + i) x ew (omega (arith, bytes-length)) refl
+          (ex
+          ∙ ap bitByte (choice-cong (λ l. truthAt choices k) (resetChoices (netlistOf f) choices) (rowAt (netlistOf f) i) (λ s m l e. ap (truthAt choices) (ek ∙ ap (placeAmong isUnknown (netlistOf f)) (sym (register-place (netlistOf f) (N .rows .unique) i (in-rows i h) s m l e)))))
+          ∙ sym (byte-is i))
+
+      -- All rows.
+      pub start-all : i ≤ n → n ≤ i → w ≡ sets v n startBytes
+      start-all h last = ew ∙ ap (λ (l : List ℕ). sets v n l) (take-all i startBytes (omega (arith, bytes-length)))

@@ -1,22 +1,21 @@
 -- One step of the run from its two passes, and the run after one step more.
 -- Assumes nothing.
-use Prim.Native.Nat.{ℕ, zero, suc, _+_, _-_, _*_, _<_, _≤_}
-use mathlib.Core.Path.{_≡_, refl, sym, ap, _∙_}
+use Prim.Native.Nat.{ℕ, zero, suc, _+_, _-_, _*_, _<_, _≤_, _^_}
+use mathlib.Core.Path.{_≡_, refl, sym, ap, _∙_, subst}
 use mathlib.Core.Bool.{Bool, true, false, cond, not, true≢false}
 use mathlib.Core.List.{List, [], _∷_, _++_, map}
-use mathlib.Core.Logic.{inl}
+use mathlib.Core.Logic.{inl, inr, ⊎-elim}
 use native.Mathlib.Omega.{arith}
 use native.Mathlib.Numerals.{add-one}
-use native.Mathlib.Nat.{suc-mul, mul-comm, mul-le-mul-right}
-use lib.Dec.{eqb}
+use native.Mathlib.Nat.{zero-mul, suc-mul, mul-comm, mul-le-mul-right}
 use lib.ListN.{length, take, drop, length-append, length-drop, length-map, List·getD-map}
 use lib.Seq.{sets, length-sets, getD-drop, take-suc, take-length, ext-getD}
-use borrow.Author.Tests.{ne-eqb}
 use Rattle.memory.specs.Lists.{countIf, joinBelow, tabulate}
 use Rattle.memory.specs.Fields.{byteAt}
 use Rattle.memory.proofs.ListLaws.{join-length, tabulate-length, tabulate-at}
 use Rattle.memory.proofs.BufferLaws.{sets-join}
 use Rattle.memory.proofs.FrameLaws.{sets-at}
+use Rattle.netlist.specs.Limits.{mostRows, mostSteps}
 use Rattle.netlist.specs.Rows.{Row, constant, input, register, andGate, xorGate, muxGate, output, rowAt, isInput, isOutput, onOutput}
 use Rattle.netlist.specs.FileFormat.{netlistOf}
 use Rattle.netlist.specs.Simulation.{boolLogic, resetValue, nextValue, valueAt, stepValues, runState, runValue}
@@ -26,12 +25,18 @@ use Rattle.netlist.proofs.SimulationLaws.{values-length}
 use Rattle.netlist.specs.WellFormed.{CheckedRows}
 use Rattle.blockfile.proofs.CountLaws.{count-next}
 use Rattle.blockfile.specs.Ready.{Ready}
-use Rattle.simulate.specs.Values.{bit, bitFrom, bitByte, bitBytes, heldIn, stateFrom, stepInputs, resetChoices, valuesFrom, shownBytes}
-use Rattle.simulate.specs.Steps.{ValuesRoom, TwoHalves, Given, Stepped}
-use Rattle.simulate.proofs.BitLaws.{bit-byte, bytes-at, bits-at, binary-bytes}
+use Rattle.row_values.specs.Values.{bit, bitFrom, bitByte, bitBytes}
+use Rattle.row_values.specs.declared.Step.{Step}
+use Rattle.row_values.proofs.BitLaws.{bit-byte, bytes-at, bits-at, binary-bytes}
+use Rattle.simulate.specs.StepValues.{stateFrom, nextStep, stepInputs, resetChoices, stepFrom, shownBytes}
+use Rattle.simulate.specs.Steps.{ValuesRoom, TwoHalves, Given, StepReady, Stepped}
 use Rattle.simulate.proofs.WriteLaws.{write-front}
 use Rattle.simulate.proofs.PlaceLaws.{node-before, output-from, count-parts}
-use Rattle.simulate.proofs.PassLaws.{next-cong, work-written, halves-written, halves-turned}
+use Rattle.simulate.proofs.PassLaws.{next-cong, room-written, halves-written}
+
+-- The initial step of a run over n rows.
+abbrev firstStep : ℕ → Step
+firstStep n = record { base = 0; current = 0; previous = n; initial = true }
 
 -- ---- numbers
 
@@ -39,8 +44,12 @@ use Rattle.simulate.proofs.PassLaws.{next-cong, work-written, halves-wr
 step-fits : (t T k base room : ℕ) → t < T → base ≡ t * k → T * k ≤ room → base + k ≤ room
 step-fits t T k base room h e l = omega (arith, mul-le-mul-right k h, suc-mul t k)
 
-pub step-next : (t k base : ℕ) → base ≡ t * k → base + k ≡ (t + 1) * k
+step-next : (t k base : ℕ) → base ≡ t * k → base + k ≡ (t + 1) * k
 step-next t k base e = rw (add-one t) (omega (arith, suc-mul t k))
+
+-- A number of steps times a count of rows is no large number.
+product-small : (T m : ℕ) → T ≤ mostSteps → m ≤ mostRows → T * m ≤ mostSteps * mostRows
+product-small T m h k = omega (arith, mul-le-mul-right m h, mul-le-mul-right mostSteps k)
 
 -- ---- lists
 
@@ -94,10 +103,10 @@ module _ (f : List ℕ) (n : ℕ) (N : Ready CheckedRows f n) where
   abbrev nodes : ℕ
   nodes = countIf (λ r. not (isOutput r)) (netlistOf f)
 
-  pub outputs-are : (nds : ℕ) → nds ≡ nodes → n - nds ≡ countIf isOutput (netlistOf f)
+  outputs-are : (nds : ℕ) → nds ≡ nodes → n - nds ≡ countIf isOutput (netlistOf f)
   outputs-are nds e = omega (arith, count-parts isOutput constant (netlistOf f), N .file .count)
 
-  pub nodes-most : nodes ≤ n
+  nodes-most : nodes ≤ n
   nodes-most = omega (arith, count-parts isOutput constant (netlistOf f), N .file .count)
 
   -- The bytes of the outputs, where the rows' bytes stand from o on.
@@ -118,18 +127,17 @@ module _ (f : List ℕ) (n : ℕ) (N : Ready CheckedRows f n) where
 
   -- ---- states
 
-  module _ (half : ℕ) (v w : List ℕ) (W : ValuesRoom n half v) where
-    -- The state that was written for the initial step.
-    pub state-written : (ss : List Bool) → length ss ≡ length (netlistOf f) → w ≡ sets v half (bitBytes ss) → stateFrom (netlistOf f) w half true ≡ ss
-    state-written ss e ew =
-        let m = length (netlistOf f) in
-        let k = length-map ss bitByte in
-        let fits : half + length (bitBytes ss) ≤ length v = omega (arith, N .file .count, W .rows-fit, W .halves-fit) in
-        ext-getD false (tabulate m (bitFrom w half)) ss (tabulate-length m (bitFrom w half) ∙ sym e) (λ j l.
-        let b : j < m = omega (arith, l, tabulate-length m (bitFrom w half)) in
-        tabulate-at m (bitFrom w half) j false b
-        ∙ ap bit (ap (λ (l : List ℕ). byteAt l (half + j)) ew ∙ sets-at (bitBytes ss) v half j (omega arith) fits)
-        ∙ bits-at ss j)
+  -- The state that was written for the initial step.
+  state-written : (v w : List ℕ) → ValuesRoom n v → (ss : List Bool) → length ss ≡ length (netlistOf f) → w ≡ sets v n (bitBytes ss) → stateFrom (netlistOf f) w (firstStep n) ≡ ss
+  state-written v w W ss e ew =
+      let m = length (netlistOf f) in
+      let k = length-map ss bitByte in
+      let fits : n + length (bitBytes ss) ≤ length v = omega (arith, N .file .count, W .fits) in
+      ext-getD false (tabulate m (bitFrom w n)) ss (tabulate-length m (bitFrom w n) ∙ sym e) (λ j l.
+      let b : j < m = omega (arith, l, tabulate-length m (bitFrom w n)) in
+      tabulate-at m (bitFrom w n) j false b
+      ∙ ap bit (ap (λ (l : List ℕ). byteAt l (n + j)) ew ∙ sets-at (bitBytes ss) v n j (omega arith) fits)
+      ∙ bits-at ss j)
 
   -- Values vs that were written from o on.
   module _ (o : ℕ) (v w : List ℕ) (vs : List Bool) (room : o + n ≤ length v) (count : length vs ≡ n) (ew : w ≡ sets v o (bitBytes vs)) where
@@ -139,11 +147,11 @@ module _ (f : List ℕ) (n : ℕ) (N : Ready CheckedRows f n) where
         ap (λ (l : List ℕ). byteAt l (o + j)) ew ∙ sets-at (bitBytes vs) v o j (omega arith) (omega arith) ∙ bytes-at vs j
 
     -- The state that the next step begins with.
-    state-next : stateFrom (netlistOf f) w o false ≡ map (nextValue boolLogic (valueAt boolLogic vs)) (netlistOf f)
-    state-next =
+    next-all : tabulate (length (netlistOf f)) (λ i. nextValue boolLogic (bitFrom w o) (rowAt (netlistOf f) i)) ≡ map (nextValue boolLogic (valueAt boolLogic vs)) (netlistOf f)
+    next-all =
         let rows = netlistOf f in
         let m = length rows in
-        let held : ℕ → Bool = λ i. heldIn w o false i (rowAt rows i) in
+        let held : ℕ → Bool = λ i. nextValue boolLogic (bitFrom w o) (rowAt rows i) in
         let next : Row → Bool = nextValue boolLogic (valueAt boolLogic vs) in
         ext-getD false (tabulate m held) (map next rows) (tabulate-length m held ∙ sym (length-map rows next)) (λ j l.
         let b : j < m = omega (arith, l, tabulate-length m held) in
@@ -151,32 +159,49 @@ module _ (f : List ℕ) (n : ℕ) (N : Ready CheckedRows f n) where
         ∙ next-cong (bitFrom w o) (valueAt boolLogic vs) m (λ i h. ap bit (values-written i (omega (arith, N .file .count))) ∙ bit-byte (valueAt boolLogic vs i)) (rowAt rows j) (N .rows .nexts j b)
         ∙ sym (List·getD-map next rows j constant))
 
-  values-count : (inputs : List ℕ) (base : ℕ) (state : List Bool) → length (valuesFrom (netlistOf f) inputs base state) ≡ n
+    state-next : (s : Step) (base : ℕ) → s .current ≡ o → stateFrom (netlistOf f) w (nextStep s base) ≡ map (nextValue boolLogic (valueAt boolLogic vs)) (netlistOf f)
+    state-next s base eo = ap (λ (p : ℕ). tabulate (length (netlistOf f)) (λ i. nextValue boolLogic (bitFrom w p) (rowAt (netlistOf f) i))) eo ∙ next-all
+
+  values-count : (inputs v : List ℕ) (s : Step) → length (stepFrom (netlistOf f) inputs v s) ≡ n
   unfolding stepValues
-  values-count inputs base state = values-length boolLogic (netlistOf f) state (stepInputs (netlistOf f) inputs base) (length (netlistOf f)) ∙ sym (N .file .count)
+  values-count inputs v s = values-length boolLogic (netlistOf f) (stateFrom (netlistOf f) v s) (stepInputs (netlistOf f) inputs (s .base)) (length (netlistOf f)) ∙ sym (N .file .count)
 
-  -- The two passes are a step.
-  pub step-of : (inputs : List ℕ) (base current previous : ℕ) (initial : Bool) (nds to : ℕ) (v w r₀ r : List ℕ) → TwoHalves n current previous v → nds ≡ nodes → w ≡ sets v current (bitBytes (valuesFrom (netlistOf f) inputs base (stateFrom (netlistOf f) v previous initial)))
-      → r ≡ sets r₀ to (take (n - nds) (drop (current + nds) w)) → Stepped (netlistOf f) (valuesFrom (netlistOf f) inputs base (stateFrom (netlistOf f) v previous initial)) current to v w r₀ r
-  step-of inputs base current previous initial nds to v w r₀ r H en ew er =
-      let state = stateFrom (netlistOf f) v previous initial in
-      let vs = valuesFrom (netlistOf f) inputs base state in
-      let room : current + n ≤ length w = omega (arith, H .current-fits, ap length ew ∙ length-sets v current (bitBytes vs)) in
-      record {
-        values = ew;
-        shown = er ∙ rw en (ap (λ (l : List ℕ). sets r₀ to l) (shown-is vs w current room (values-written current v w vs (H .current-fits) (values-count inputs base state) ew)));
-      }
+  -- ---- a step
 
--- Each step finds its inputs, and room for its outputs.
-pub given-fits : (f : List ℕ) (n nds ins T : ℕ) (choices inputs : List ℕ) (result : ℕ) (work : List ℕ) (half : ℕ) → Given f n nds ins T choices inputs result work half → (t base to : ℕ) → t < T → base ≡ t * ins → to ≡ t * (n - nds) → (base + ins ≤ length inputs) × (to + (n - nds) ≤ result)
-given-fits f n nds ins T choices inputs result work half G t base to h eb et =
-    (step-fits t T ins base (length inputs) h eb (omega (arith, G .input-count)), step-fits t T (n - nds) to result h et (rw (outputs-are f n (G .netlist) nds (G .nodes-are)) (G .result-holds)))
+  module _ (nds : ℕ) (en : nds ≡ nodes) where
+    pub step-outputs : nds ≤ n
+    step-outputs = omega (arith, nodes-most)
 
--- ---- the run after t steps: memory w, result r, which was r₀
+    module _ (s : Step) (v : List ℕ) (H : TwoHalves n s v) where
+      pub step-shown : length v < 2 ^ 64 → s .current + nds < 2 ^ 64
+      step-shown l = omega (arith, nodes-most, H .current-fits)
 
-pub record Running (f : List ℕ) (choices inputs : List ℕ) (n current previous t : ℕ) (w r₀ r : List ℕ) : Type 0 where
-  pub work : TwoHalves n current previous w
-  pub state : stateFrom (netlistOf f) w previous (eqb t 0) ≡ runState boolLogic (netlistOf f) (valuesFromBytes (netlistOf f) choices inputs .choices) (valuesFromBytes (netlistOf f) choices inputs .inputs) t
+      pub step-copies : (w : List ℕ) → length w ≡ length v → s .current + nds + (n - nds) ≤ length w
+      step-copies w e = omega (arith, nodes-most, H .current-fits)
+
+      -- The two passes are a step.
+      pub step-of : (inputs : List ℕ) (to : ℕ) (w r₀ r : List ℕ) → w ≡ sets v (s .current) (bitBytes (stepFrom (netlistOf f) inputs v s)) → r ≡ sets r₀ to (take (n - nds) (drop (s .current + nds) w)) → Stepped f inputs s to v w r₀ r
+      step-of inputs to w r₀ r ew er =
+          let vs = stepFrom (netlistOf f) inputs v s in
+          let room : s .current + n ≤ length w = omega (arith, H .current-fits, ap length ew ∙ length-sets v (s .current) (bitBytes vs)) in
+          record {
+            values = ew;
+            shown = er ∙ rw en (ap (λ (l : List ℕ). sets r₀ to l) (shown-is vs w (s .current) room (values-written (s .current) v w vs (H .current-fits) (values-count inputs v s) ew)));
+          }
+
+-- ---- the run after t steps: memory was w₀ before the first and is w, result was r₀ and is r
+
+pub record Running (f : List ℕ) (n nds ins T : ℕ) (choices inputs w₀ r₀ : List ℕ) (s : Step) (to t : ℕ) (w r : List ℕ) : Type 0 where
+  pub given : Given f n nds ins T choices inputs r₀
+  pub upto : t ≤ T
+  pub base-is : s .base ≡ t * ins
+  pub base-small : s .base ≤ mostSteps * mostRows
+  pub inputs-few : ins ≤ mostRows
+  pub to-is : to ≡ t * (n - nds)
+  pub room : length w ≡ length w₀
+  pub result-room : length r ≡ length r₀
+  pub work : TwoHalves n s w
+  pub state : stateFrom (netlistOf f) w s ≡ runState boolLogic (netlistOf f) (valuesFromBytes (netlistOf f) choices inputs .choices) (valuesFromBytes (netlistOf f) choices inputs .inputs) t
   pub shown : r ≡ sets r₀ 0 (runBytes (netlistOf f) choices inputs t)
 
 module _ (f : List ℕ) (n : ℕ) (N : Ready CheckedRows f n) (choices inputs : List ℕ) where
@@ -192,41 +217,92 @@ module _ (f : List ℕ) (n : ℕ) (N : Ready CheckedRows f n) (choices inputs : 
       (λ j l. sym (ap length (step-bytes _ j refl)) ∙ shown-length (netlistOf f) _)
       ∙ mul-comm (countIf isOutput (netlistOf f)) t
 
-  pub run-none : (half : ℕ) (v w r₀ : List ℕ) → ValuesRoom n half v → w ≡ sets v half (bitBytes (map (resetValue boolLogic (resetChoices (netlistOf f) choices)) (netlistOf f))) → Running f choices inputs n 0 half 0 w r₀ r₀
+module _ {f : List ℕ} {n nds ins T : ℕ} {choices inputs r₀ : List ℕ} (G : Given f n nds ins T choices inputs r₀) where
+  pub run-outputs : nds ≤ n
+  run-outputs = step-outputs f n (G .netlist) nds (G .nodes-are)
+
+  outputs-count : n - nds ≡ countIf isOutput (netlistOf f)
+  outputs-count = outputs-are f n (G .netlist) nds (G .nodes-are)
+
+  pub run-none : {v w : List ℕ} → ValuesRoom n v → w ≡ sets v n (bitBytes (map (resetValue boolLogic (resetChoices (netlistOf f) choices)) (netlistOf f))) → Running f n nds ins T choices inputs w r₀ (firstStep n) 0 0 w r₀
   unfolding runState runBytes valuesFromBytes
-  run-none half v w r₀ W e =
+  run-none {v} {w} R e =
       let first = map (resetValue boolLogic (resetChoices (netlistOf f) choices)) (netlistOf f) in
-      let W₁ = work-written n half v w half (bitBytes first) W (binary-bytes first) e in
+      let W = room-written n v w n (bitBytes first) R (binary-bytes first) e in
       record {
-        work = record { current-fits = omega (arith, W₁ .rows-fit, W₁ .halves-fit); previous-fits = omega (arith, W₁ .rows-fit, W₁ .halves-fit); apart = inl (omega (arith, W₁ .rows-fit)); binary = W₁ .binary };
-        state = state-written f n N half v w W first (length-map (netlistOf f) (resetValue boolLogic (resetChoices (netlistOf f) choices))) e;
+        given = G;
+        upto = omega arith;
+        base-is = sym (zero-mul ins);
+        base-small = omega arith;
+        inputs-few = omega (arith, G .inputs-are, count-parts isInput constant (netlistOf f), G .netlist .file .count, G .netlist .file .few);
+        to-is = sym (zero-mul (n - nds));
+        room = refl;
+        result-room = refl;
+        work = record { current-fits = omega (arith, W .fits); previous-fits = omega (arith, W .fits); apart = inl (omega arith); binary = W .binary };
+        state = state-written f n (G .netlist) v w R first (length-map (netlistOf f) (resetValue boolLogic (resetChoices (netlistOf f) choices))) e;
         shown = refl;
       }
 
-  pub run-more : (current previous t ins base to outs : ℕ) (v w r₀ r r′ : List ℕ) → ins ≡ countIf isInput (netlistOf f) → base ≡ t * ins → outs ≡ countIf isOutput (netlistOf f) → to ≡ t * outs
-      → Running f choices inputs n current previous t v r₀ r → Stepped (netlistOf f) (valuesFrom (netlistOf f) inputs base (stateFrom (netlistOf f) v previous (eqb t 0))) current to v w r r′ → Running f choices inputs n previous current (t + 1) w r₀ r′
-  unfolding runState runBytes valuesFromBytes
-  run-more current previous t ins base to outs v w r₀ r r′ ei eb eo et U S =
-      let rows = netlistOf f in
-      let state = stateFrom rows v previous (eqb t 0) in
-      let vs = valuesFrom rows inputs base state in
-      let run = valuesFromBytes rows choices inputs in
-      let same : vs ≡ stepValues boolLogic rows (runState boolLogic rows (run .choices) (run .inputs) t) (run .inputs t) =
-      ap (λ (s : List Bool). stepValues boolLogic rows s (stepInputs rows inputs base)) (U .state)
-      ∙ ap (λ (b : ℕ). stepValues boolLogic rows (runState boolLogic rows (run .choices) (run .inputs) t) (stepInputs rows inputs b)) (eb ∙ ap (λ (k : ℕ). t * k) ei) in
-      let front : to ≡ 0 + length (runBytes rows choices inputs t) = omega (arith, et ∙ ap (λ (k : ℕ). t * k) eo, run-length t) in
-      rw (add-one t)
-      (record {
-        work = halves-turned n current previous w (halves-written n current previous v w current (bitBytes vs) (U .work) (binary-bytes vs) (S .values));
-        state = ap (stateFrom rows w current) (ne-eqb (suc t) 0 (λ e. omega arith)) ∙ state-next f n N current v w vs (U .work .current-fits) (values-count f n N inputs base state) (S .values) ∙ ap (λ (l : List Bool). map (nextValue boolLogic (valueAt boolLogic l)) rows) same;
-        shown = S .shown
-            ∙ ap (λ (l : List ℕ). sets l to (shownBytes rows vs)) (U .shown)
-            ∙ ap (λ (k : ℕ). sets (sets r₀ 0 (runBytes rows choices inputs t)) k (shownBytes rows vs)) front
-            ∙ sets-join (runBytes rows choices inputs t) (shownBytes rows vs) r₀ 0
-            ∙ ap (λ (l : List ℕ). sets r₀ 0 (runBytes rows choices inputs t ++ l)) (step-bytes vs t same);
-      })
+module _ {f : List ℕ} {n nds ins T : ℕ} {choices inputs w₀ r₀ : List ℕ} {s : Step} {to t : ℕ} {w r : List ℕ} (U : Running f n nds ins T choices inputs w₀ r₀ s to t w r) where
+  abbrev G : Given f n nds ins T choices inputs r₀
+  G = U .given
 
-  pub run-end : (current previous T : ℕ) (w r₀ r : List ℕ) → T * countIf isOutput (netlistOf f) ≤ length r₀ → Running f choices inputs n current previous T w r₀ r → r ≡ runBytes (netlistOf f) choices inputs T ++ drop (T * countIf isOutput (netlistOf f)) r₀
-  run-end current previous T w r₀ r h U =
+  module _ (less : t < T) where
+    base-fits : s .base + ins ≤ length inputs
+    base-fits = step-fits t T ins (s .base) (length inputs) less (U .base-is) (omega (arith, G .input-count))
+
+    to-fits : to + (n - nds) ≤ length r
+    to-fits = step-fits t T (n - nds) to (length r) less (U .to-is) (rw (outputs-count G) (omega (arith, G .result-holds, U .result-room)))
+
+    pub run-ready : StepReady f n nds inputs r to w s
+    run-ready = record { netlist = G .netlist; nodes-are = G .nodes-are; inputs-fit = record { count = omega (arith, base-fits, G .inputs-are); binary = G .input-values }; result-fits = to-fits; halves = U .work }
+
+    -- No number of bytes is large.
+    base-small : s .base + ins ≤ mostSteps * mostRows
+    base-small = step-fits t T ins (s .base) (mostSteps * mostRows) less (U .base-is) (product-small T ins (G .few-steps) (U .inputs-few))
+
+    pub run-to : to + (n - nds) < 2 ^ 64
+    run-to = omega (arith, step-fits t T (n - nds) to (mostSteps * mostRows) less (U .to-is) (product-small T (n - nds) (G .few-steps) (omega (arith, G .netlist .file .few))))
+
+    -- One step more.
+    pub run-more : {s′ : Step} {w′ r′ : List ℕ} → Stepped f inputs s to w w′ r r′ → s′ ≡ nextStep s (s .base + ins) → Running f n nds ins T choices inputs w₀ r₀ s′ (to + (n - nds)) (t + 1) w′ r′
+    unfolding runState runBytes valuesFromBytes
+    run-more {s′} {w′} {r′} S es =
+        let rows = netlistOf f in
+        let outs = n - nds in
+        let vs = stepFrom rows inputs w s in
+        let run = valuesFromBytes rows choices inputs in
+        let state = runState boolLogic rows (run .choices) (run .inputs) t in
+        let same : vs ≡ stepValues boolLogic rows state (run .inputs t) =
+        ap (λ (u : List Bool). stepValues boolLogic rows u (stepInputs rows inputs (s .base))) (U .state)
+        ∙ ap (λ (b : ℕ). stepValues boolLogic rows state (stepInputs rows inputs b)) (U .base-is ∙ ap (λ (k : ℕ). t * k) (G .inputs-are)) in
+        let front : to ≡ 0 + length (runBytes rows choices inputs t) = omega (arith, U .to-is ∙ ap (λ (k : ℕ). t * k) (outputs-count G), run-length f n (G .netlist) choices inputs t) in
+        let H = halves-written n s w w′ (s .current) (bitBytes vs) (U .work) (binary-bytes vs) (S .values) in
+        subst (λ (u : Step). Running f n nds ins T choices inputs w₀ r₀ u (to + (n - nds)) (t + 1) w′ r′) (sym es)
+        (record {
+          given = G;
+          upto = omega arith;
+          base-is = step-next t ins (s .base) (U .base-is);
+          base-small = base-small;
+          inputs-few = U .inputs-few;
+          to-is = step-next t outs to (U .to-is);
+          room = ap length (S .values) ∙ length-sets w (s .current) (bitBytes vs) ∙ U .room;
+          result-room = ap length (S .shown) ∙ length-sets r to (shownBytes rows vs) ∙ U .result-room;
+          work = record { current-fits = H .previous-fits; previous-fits = H .current-fits; apart = ⊎-elim inr inl (H .apart); binary = H .binary };
+          state = state-next f n (G .netlist) (s .current) w w′ vs (U .work .current-fits) (values-count f n (G .netlist) inputs w s) (S .values) s (s .base + ins) refl
+              ∙ ap (λ (l : List Bool). map (nextValue boolLogic (valueAt boolLogic l)) rows) same
+              ∙ ap (runState boolLogic rows (run .choices) (run .inputs)) (sym (add-one t));
+          shown = S .shown
+              ∙ ap (λ (l : List ℕ). sets l to (shownBytes rows vs)) (U .shown)
+              ∙ ap (λ (k : ℕ). sets (sets r₀ 0 (runBytes rows choices inputs t)) k (shownBytes rows vs)) front
+              ∙ sets-join (runBytes rows choices inputs t) (shownBytes rows vs) r₀ 0
+              ∙ ap (λ (l : List ℕ). sets r₀ 0 (runBytes rows choices inputs t ++ l)) (step-bytes f n (G .netlist) choices inputs vs t same)
+              ∙ ap (λ (k : ℕ). sets r₀ 0 (runBytes rows choices inputs k)) (sym (add-one t));
+        })
+
+  pub run-end : T ≤ t → r ≡ runBytes (netlistOf f) choices inputs T ++ drop (T * countIf isOutput (netlistOf f)) r₀
+  run-end last =
       let run = runBytes (netlistOf f) choices inputs T in
-      U .shown ∙ write-front r₀ run (omega (arith, run-length T)) ∙ ap (λ (k : ℕ). run ++ drop k r₀) (run-length T)
+      let e : t ≡ T = omega (arith, U .upto) in
+      let l = run-length f n (G .netlist) choices inputs T in
+      U .shown ∙ ap (λ (k : ℕ). sets r₀ 0 (runBytes (netlistOf f) choices inputs k)) e ∙ write-front r₀ run (omega (arith, G .result-holds)) ∙ ap (λ (k : ℕ). run ++ drop k r₀) l

@@ -1,3 +1,3 @@
--- Values in lent memory, and what the steps of a run are given and leave.
-pub mod Values
+-- A step's values, and what the steps of a run are given and leave.
+pub mod StepValues
 pub mod Steps

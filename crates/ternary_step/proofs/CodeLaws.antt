@@ -12,7 +12,8 @@ use lib.ListN.{length, getD, set, length-append, List·getD-append, List·getD-e
 use lib.Seq.{getD-at, getD-set-same, getD-set-other}
 use Rattle.memory.specs.Fields.{IsBytes, byteAt}
 use Rattle.netlist.specs.Limits.{mostOriginalRegisters}
-use Rattle.ternary_step.specs.StateMap.{pairOf, codeAt, stateBytes, Packed}
+use Rattle.fold_memory.specs.WorkMap.{stateBytes}
+use Rattle.ternary_step.specs.StateMap.{pairOf, codeAt, Packed}
 
 -- ---- the pairs of a byte: pair d is put into a byte whose pairs from d on are 0
 

@@ -15,71 +15,72 @@ use Rattle.memory.proofs.ListLaws.{tabulate-length}
 use Rattle.memory.proofs.FrameLaws.{kept-set, kept-join, u16-kept}
 use Rattle.ternary.specs.Ternary.{codeOf, valueOf}
 use Rattle.ternary.proofs.RuleLaws.{value-of-code}
-use Rattle.netlist.specs.Limits.{mostOriginalRows, mostOriginalRegisters, foldWorkBytes, lastState}
-use Rattle.netlist.specs.Rows.{Row, rowAt, isRegister}
+use Rattle.netlist.specs.Limits.{mostOriginalRows, mostOriginalRegisters, lastState}
+use Rattle.netlist.specs.Rows.{Row, rowAt, isRegister, constant}
 use Rattle.netlist.specs.Simulation.{literalValue}
 use Rattle.lasso.specs.TernaryRun.{ternaryLogic}
 use Rattle.netlist.specs.WellFormed.{FoldableRows}
 use Rattle.netlist.proofs.SimulationLaws.{literal-cong}
 use Rattle.lasso.specs.Generators.{stateValue}
-use Rattle.ternary_step.specs.WorkMap.{knownPlace}
-use Rattle.ternary_step.specs.StateMap.{statePlace, nextPlace, stateBytes, Packed, registersBefore, nextOf, stateCodes, Stored, valueIn, stepValue, Valued, Coded, literalIn, Evaluated, NextsListed, NextReady, shownCodes, Searched}
+use Rattle.blockfile.proofs.CountLaws.{count-place}
+use Rattle.fold_memory.specs.WorkMap.{valueOffset, nextOffset, stateBytes, stateOffset}
+use Rattle.ternary_step.specs.StateMap.{Packed, registersBefore, nextOf, stateCodes, Stored, valueIn, stepValue, Valued, Coded, literalIn, Evaluated, NextsListed, NextReady, shownCodes, Searched}
 use Rattle.ternary_step.proofs.CodeLaws.{packed-small, packed-more}
 use Rattle.ternary_step.proofs.RegisterLaws.{on-next, before-yes, before-no, before-all, codes-register, codes-other, state-held}
 use Rattle.ternary_step.proofs.StateLaws.{IsCode}
-use Rattle.ternary_step.proofs.StepLaws.{ValuesKept, StateKept, place-case, place-within, packed-values, packed-state, value-kept, coded-kept}
+use Rattle.ternary_step.proofs.StepLaws.{ValuesKept, StateKept, packed-values, packed-state, value-kept, coded-kept}
 
 -- ---- the packing of state m, register by register: w is the memory before, w₁ with j registers put
 
 module _ {w : List ℕ} {n m : ℕ} (R : NextReady w n m) {w₁ : List ℕ} {j : ℕ} (less : j < n) (K : StateKept m w w₁) where
-  list-same : (k : ℕ) → u16At w₁ (nextPlace k) ≡ u16At w (nextPlace k)
-  list-same k = let q = place-within m (R .known-state) in u16-kept K (nextPlace k) (λ x a b c d. omega arith)
+  list-same : (k : ℕ) → k < mostOriginalRegisters → u16At w₁ (nextOffset k) ≡ u16At w (nextOffset k)
+  list-same k h = u16-kept K (nextOffset k) (λ x a b c d. omega arith)
 
-  module _ {next : ℕ} (listed : next ≡ u16At w₁ (nextPlace j)) where
-    next-is : next ≡ u16At w (nextPlace j)
-    next-is = listed ∙ list-same j
+  module _ {next : ℕ} (listed : next ≡ u16At w₁ (nextOffset j)) where
+    next-is : next ≡ u16At w (nextOffset j)
+    next-is = let f = R .few in listed ∙ list-same j (omega arith)
 
     pub literal-asks : (next / 2 < mostOriginalRows) × Coded w₁
-    literal-asks = (rw next-is (R .literals j less), coded-kept w w₁ m (R .known-state) K (R .coded))
+    literal-asks = (rw next-is (R .literals j less), coded-kept w w₁ m K (R .coded))
 
     module _ {code : ℕ} (shown : IsCode code (literalIn w₁ next)) where
-      shown-is : code ≡ codeOf (literalIn w (u16At w (nextPlace j)))
+      shown-is : code ≡ codeOf (literalIn w (u16At w (nextOffset j)))
       shown-is =
           shown .0 ∙ rw next-is
-          (ap codeOf (literal-cong ternaryLogic (valueIn w₁) (valueIn w) (u16At w (nextPlace j)) (ap valueOf (value-kept w w₁ m (u16At w (nextPlace j) / 2) (R .known-state) (R .literals j less) K))))
+          (ap codeOf (literal-cong ternaryLogic (valueIn w₁) (valueIn w) (u16At w (nextOffset j)) (ap valueOf (value-kept w w₁ m (u16At w (nextOffset j) / 2) (R .literals j less) K))))
 
-      module _ (P : Packed w₁ (statePlace m) (shownCodes w j)) {base : ℕ} (place : base ≡ statePlace m) (bytes : IsBytes w₁) where
+      module _ (P : Packed w₁ (stateOffset m) (shownCodes w j)) {base : ℕ} (at-state : base ≡ stateOffset m) (bytes : IsBytes w₁) where
         number-is : length (shownCodes w j) ≡ j
-        number-is = tabulate-length j (λ k. codeOf (literalIn w (u16At w (nextPlace k))))
+        number-is = tabulate-length j (λ k. codeOf (literalIn w (u16At w (nextOffset k))))
 
         put-small : byteAt w₁ (base + j / 4) < 2 ^ (j % 4 * 2)
         put-small =
             let f = R .few in
-            let q = packed-small w₁ (statePlace m) (shownCodes w j) P bytes (omega (arith, number-is)) in
-            subst (λ (b : ℕ). byteAt w₁ (b + j / 4) < 2 ^ (j % 4 * 2)) (sym place) (subst (λ (k : ℕ). byteAt w₁ (statePlace m + k / 4) < 2 ^ (k % 4 * 2)) number-is q)
+            let q = packed-small w₁ (stateOffset m) (shownCodes w j) P bytes (omega (arith, number-is)) in
+            subst (λ (b : ℕ). byteAt w₁ (b + j / 4) < 2 ^ (j % 4 * 2)) (sym at-state) (subst (λ (k : ℕ). byteAt w₁ (stateOffset m + k / 4) < 2 ^ (k % 4 * 2)) number-is q)
 
-        pub next-put-asks : ((base ≤ statePlace lastState) × ((j < mostOriginalRegisters) × (foldWorkBytes ≤ length w₁))) × ((code < 3) × (byteAt w₁ (base + j / 4) < 2 ^ (j % 4 * 2)))
+        pub next-put-asks : ((j < mostOriginalRegisters) × (base + stateBytes ≤ length w₁)) × ((code < 3) × (byteAt w₁ (base + j / 4) < 2 ^ (j % 4 * 2)))
         next-put-asks =
             let f = R .few in
-            let r = R .coded .room in
+            let r = R .room in
             let l = K .long in
-            ((place-case m (R .known-state) (λ d e. omega arith) (λ d e. omega arith), (omega arith, omega arith)), (shown .1, put-small))
+            ((omega arith, omega arith), (shown .1, put-small))
 
-        pub next-packed : {w₂ : List ℕ} → w₂ ≡ set w₁ (base + j / 4) (byteAt w₁ (base + j / 4) + code * 2 ^ (j % 4 * 2)) → StateKept m w w₂ × Packed w₂ (statePlace m) (shownCodes w (j + 1))
+        pub next-packed : {w₂ : List ℕ} → w₂ ≡ set w₁ (base + j / 4) (byteAt w₁ (base + j / 4) + code * 2 ^ (j % 4 * 2)) → StateKept m w w₂ × Packed w₂ (stateOffset m) (shownCodes w (j + 1))
         next-packed {w₂} put =
             let f = R .few in
-            let r = R .coded .room in
+            let r = R .room in
             let l = K .long in
             let c = shown .1 in
-            let room : base + stateBytes ≤ length w₁ = place-case m (R .known-state) (λ d e. omega arith) (λ d e. omega arith) in
-            let L : StateKept m w₁ w₂ = rw put (kept-set (statePlace m) (statePlace m + stateBytes) (base + j / 4) _ w₁ (omega arith) (omega arith)) in
+            let room : base + stateBytes ≤ length w₁ = omega arith in
+            let L : StateKept m w₁ w₂ = rw put (kept-set (stateOffset m) (stateOffset m + stateBytes) (base + j / 4) _ w₁ (omega arith) (omega arith)) in
             let q : shownCodes w j ++ (code ∷ []) ≡ shownCodes w (j + 1) = rw (add-one j, shown-is) refl in
-            let P₁ : Packed w₁ base (shownCodes w j) = subst (λ (b : ℕ). Packed w₁ b (shownCodes w j)) (sym place) P in
+            let P₁ : Packed w₁ base (shownCodes w j) = subst (λ (b : ℕ). Packed w₁ b (shownCodes w j)) (sym at-state) P in
             let p = packed-more w₁ base (shownCodes w j) P₁ code (omega arith) (omega (arith, number-is)) room
             (subst (λ (k : ℕ). byteAt w₁ (base + k / 4) < 2 ^ (k % 4 * 2)) (sym number-is) put-small) in (
-              kept-join (statePlace m) (statePlace m + stateBytes) w w₁ w₂ K L (omega arith) (omega arith) (omega arith) (omega arith),
-              subst (λ (v : List ℕ). Packed v (statePlace m) (shownCodes w (j + 1))) (sym put)
-                  (subst (λ (b : ℕ). Packed (set w₁ (base + j / 4) (byteAt w₁ (base + j / 4) + code * 2 ^ (j % 4 * 2))) b (shownCodes w (j + 1))) place
+              kept-join (stateOffset m) (stateOffset m + stateBytes) w w₁ w₂ K L (omega arith) (omega arith) (omega arith) (omega arith),
+              subst (λ (v : List ℕ). Packed v (stateOffset m) (shownCodes w (j + 1))) (sym put)
+                  (subst (λ (b : ℕ). Packed (set w₁ (base + j / 4) (byteAt w₁ (base + j / 4) + code * 2 ^ (j % 4 * 2))) b (shownCodes w (j + 1))) at-state
                   (subst (Packed (set w₁ (base + j / 4) (byteAt w₁ (base + j / 4) + code * 2 ^ (j % 4 * 2))) base) q
                   (subst (λ (k : ℕ). Packed (set w₁ (base + k / 4) (byteAt w₁ (base + k / 4) + code * 2 ^ (k % 4 * 2))) base (shownCodes w j ++ (code ∷ []))) number-is p))),
             )
@@ -91,11 +92,11 @@ module _ {rows : List Row} (accepted : FoldableRows rows) where
   next-below x h e = subst (λ (T : Type 0). T) (on-next (Unit {0}) (λ a. a / 2 < length rows) (rowAt rows x) e) (accepted .checked .nexts x h)
 
   module _ (w : List ℕ) (nexts : NextsListed rows w (length rows)) where
-    listed-below : (i : ℕ) → i ≤ length rows → (j : ℕ) → j < registersBefore rows i → u16At w (nextPlace j) / 2 < length rows
+    listed-below : (i : ℕ) → i ≤ length rows → (j : ℕ) → j < registersBefore rows i → u16At w (nextOffset j) / 2 < length rows
     listed-below zero h j l = absurd (omega arith)
     listed-below (suc i) h j l = by-kind (isRegister (rowAt rows i)) refl (listed-below i (omega arith) j)
       where
-        by-kind : (b : Bool) → isRegister (rowAt rows i) ≡ b → (j < registersBefore rows i → u16At w (nextPlace j) / 2 < length rows) → u16At w (nextPlace j) / 2 < length rows
+        by-kind : (b : Bool) → isRegister (rowAt rows i) ≡ b → (j < registersBefore rows i → u16At w (nextOffset j) / 2 < length rows) → u16At w (nextOffset j) / 2 < length rows
         by-kind true e before =
             last-or j (registersBefore rows i) (omega (arith, before-yes rows i h e))
             before
@@ -103,7 +104,7 @@ module _ {rows : List Row} (accepted : FoldableRows rows) where
         by-kind false e before = before (omega (arith, before-no rows i h e))
 
     module _ (u : ℕ) (values : Valued rows w u (length rows)) where
-      shown-state : (i : ℕ) → i < length rows → isRegister (rowAt rows i) ≡ true → codeOf (literalIn w (u16At w (nextPlace (registersBefore rows i)))) ≡ codeOf (stateValue rows i (suc u))
+      shown-state : (i : ℕ) → i < length rows → isRegister (rowAt rows i) ≡ true → codeOf (literalIn w (u16At w (nextOffset (registersBefore rows i)))) ≡ codeOf (stateValue rows i (suc u))
       shown-state i h e =
           let l = nextOf (rowAt rows i) in
           rw (nexts i h e)
@@ -132,43 +133,47 @@ module _ {rows : List Row} (accepted : FoldableRows rows) where
 
 module _ {rows : List Row} {w : List ℕ} {m : ℕ} (from : 1 ≤ m) (to : m ≤ lastState) (S : Searched rows w m) where
   pub evaluate-asks : Evaluated rows w (m - 1) 0
-  evaluate-asks = record { coded = S .coded; state = S .stored (m - 1) (omega arith); values = λ x l. absurd (omega arith) }
+  evaluate-asks = let r = S .room in record { coded = S .coded; room = omega arith; state = S .stored (m - 1) (omega arith); values = λ x l. absurd (omega arith) }
 
-  module _ {n registers : ℕ} {w₁ : List ℕ} (accepted : FoldableRows rows) (few : countIf isRegister rows ≤ mostOriginalRegisters) (count : n ≡ length rows) (number : registers ≡ countIf isRegister rows) (K : ValuesKept w w₁) (E : Evaluated rows w₁ (m - 1) n) where
+  module _ {n registers : ℕ} {w₁ : List ℕ} (accepted : FoldableRows rows) (few : countIf isRegister rows ≤ mostOriginalRegisters) (count : n ≡ length rows) (number : registers ≡ countIf isRegister rows) (room : stateOffset (m + 1) ≤ length w) (K : ValuesKept w w₁) (E : Evaluated rows w₁ (m - 1) n) where
     nexts-valued : NextsListed rows w₁ (length rows)
-    nexts-valued x h e = u16-kept K (nextPlace (registersBefore rows x)) (λ y p q c d. omega arith) ∙ S .nexts x h e
+    nexts-valued x h e = u16-kept K (nextOffset (registersBefore rows x)) (λ y p q c d. omega arith) ∙ S .nexts x h e
 
     pub pack-asks : NextReady w₁ registers m
     pack-asks =
         let s = accepted .small in
-        let b = before-all rows in record {
+        let b = before-all rows in
+        let k = K .long in record {
           coded = E .coded;
           few = omega arith;
           known-state = to;
+          room = omega arith;
           literals = λ j l. (let q = listed-below accepted w₁ nexts-valued (length rows) (omega arith) j (omega arith) in omega arith);
-          clear = packed-values w w₁ m [] to K (S .clear m (omega arith) to);
+          clear = packed-values w w₁ m [] K (S .clear m (omega arith) to);
         }
 
-    module _ {w₂ : List ℕ} (L : StateKept m w₁ w₂) (P : Packed w₂ (statePlace m) (shownCodes w₁ registers)) where
-      pub advance-kept : KeptOutside (statePlace 0) (knownPlace 0) w w₂
-      advance-kept = kept-join (statePlace 0) (knownPlace 0) w w₁ w₂ K L (omega arith) (omega arith) (omega arith) (place-case m to (λ d e. omega arith) (λ d e. omega arith))
+    module _ {w₂ : List ℕ} (L : StateKept m w₁ w₂) (P : Packed w₂ (stateOffset m) (shownCodes w₁ registers)) where
+      pub advance-kept : KeptOutside (valueOffset 0) (stateOffset (m + 1)) w w₂
+      advance-kept = kept-join (valueOffset 0) (stateOffset (m + 1)) w w₁ w₂ K L (omega arith) (omega arith) (omega arith) (omega arith)
 
-      other-kept : (t : ℕ) (cs : List ℕ) → t ≤ lastState → (t ≡ m → ⊥) → Packed w (statePlace t) cs → Packed w₂ (statePlace t) cs
-      other-kept t cs h q C = packed-state w₁ w₂ m t cs to h q L (packed-values w w₁ t cs h K C)
+      other-kept : (t : ℕ) (cs : List ℕ) → (t ≡ m → ⊥) → Packed w (stateOffset t) cs → Packed w₂ (stateOffset t) cs
+      other-kept t cs q C = packed-state w₁ w₂ m t cs q L (packed-values w w₁ t cs K C)
 
       new-stored : Stored rows w₂ m
       new-stored =
           let e : suc (m - 1) ≡ m = omega arith in
-          subst (Packed w₂ (statePlace m))
+          subst (Packed w₂ (stateOffset m))
           (ap (shownCodes w₁) number ∙ shown-all accepted w₁ nexts-valued (m - 1) (λ x h. E .values x (omega arith)) ∙ ap (λ (t : ℕ). stateCodes rows t (length rows)) e) P
 
       pub advance-done : Searched rows w₂ (m + 1)
       advance-done =
-          let q = place-within m to in record {
-            coded = coded-kept w₁ w₂ m to L (E .coded);
+          let k = K .long in
+          let l = L .long in record {
+            coded = coded-kept w₁ w₂ m L (E .coded);
+            room = omega arith;
             stored = λ t h. last-or t m (omega arith)
-                (λ l. other-kept t (stateCodes rows t (length rows)) (omega arith) (λ (e : t ≡ m). omega arith) (S .stored t l))
+                (λ l. other-kept t (stateCodes rows t (length rows)) (λ (e : t ≡ m). omega arith) (S .stored t l))
                 (λ e. subst (Stored rows w₂) (sym e) new-stored);
-            clear = λ t h l. other-kept t [] l (λ (e : t ≡ m). omega arith) (S .clear t (omega arith) l);
-            nexts = λ x h e. u16-kept L (nextPlace (registersBefore rows x)) (λ y p r c d. omega arith) ∙ nexts-valued x h e;
+            clear = λ t h l. other-kept t [] (λ (e : t ≡ m). omega arith) (S .clear t (omega arith) l);
+            nexts = λ x h e. let s = count-place isRegister constant rows x h e in u16-kept L (nextOffset (registersBefore rows x)) (λ y p r c d. omega arith) ∙ nexts-valued x h e;
           }

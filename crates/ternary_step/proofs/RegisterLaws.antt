@@ -7,6 +7,8 @@ use mathlib.Core.List.{List, [], _∷_, _++_, append-nil}
 use native.Mathlib.Omega.{arith}
 use native.Mathlib.Numerals.{add-one}
 use native.Mathlib.Nat.{le-refl}
+use borrow.Author.Tests.{eq-eqb, ne-eqb}
+use lib.Dec.{eqb}
 use lib.ListN.{length, getD, length-append, List·getD-append, length-map}
 use lib.Seq.{take-length, getD-at}
 use Rattle.memory.specs.Lists.{countIf}
@@ -22,6 +24,13 @@ use Rattle.blockfile.proofs.CountLaws.{count-next}
 use Rattle.ternary_step.specs.StateMap.{registersBefore, nextOf, stateCodes, stepValue}
 
 -- ---- rows by kind
+
+-- One more register, if the kind is a register's.
+pub count-yes : (k j : ℕ) → k ≡ 2 → j + 1 ≡ j + cond (eqb k 2) 1 0
+count-yes k j e = rw (eq-eqb k 2 e) refl
+
+pub count-no : (k j : ℕ) → (k ≡ 2 → ⊥) → j ≡ j + cond (eqb k 2) 1 0
+count-no k j e = rw (ne-eqb k 2 e) (omega arith)
 
 -- The fields of a register.
 pub register-row : (k r a b c : ℕ) → isRegister (rowFromFields k r a b c) ≡ true → rowFromFields k r a b c ≡ register r a b

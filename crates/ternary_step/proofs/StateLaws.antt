@@ -1,6 +1,6 @@
 -- The memory's bytes as values of rows and as states of the three-valued run: each function's step from row to row.
 -- Assumes nothing.
-use Prim.Native.Nat.{ℕ, zero, suc, _<_, _≤_, _/_, _%_}
+use Prim.Native.Nat.{ℕ, zero, suc, _+_, _<_, _≤_, _/_, _%_}
 use mathlib.Core.Path.{_≡_, refl, sym, ap, _∙_}
 use mathlib.Core.List.{List}
 use native.Mathlib.Omega.{arith}
@@ -8,7 +8,7 @@ use lib.ListN.{length}
 use Rattle.memory.specs.Fields.{byteAt}
 use Rattle.ternary.specs.Ternary.{Ternary, not3, and3, xor3, mux3, codeOf, valueOf}
 use Rattle.ternary.proofs.RuleLaws.{value-of-code, code-below}
-use Rattle.netlist.specs.Limits.{mostOriginalRows, mostOriginalRegisters, foldWorkBytes, lastState}
+use Rattle.netlist.specs.Limits.{mostOriginalRows, mostOriginalRegisters}
 use Rattle.netlist.specs.Rows.{rowFromFields, isRegister}
 use Rattle.netlist.specs.Simulation.{complementIf}
 use Rattle.lasso.specs.TernaryRun.{ternaryLogic}
@@ -16,7 +16,8 @@ use Rattle.netlist.specs.WellFormed.{OperandsBelow}
 use Rattle.blockfile.specs.RowCode.{ifKnown}
 use Rattle.blockfile.proofs.RowCodeLaws.{kind-unknown}
 use Rattle.blockfile.specs.declared.Fields.{Fields}
-use Rattle.ternary_step.specs.StateMap.{statePlace, valuePlace, codeAt, valueIn, Coded, literalIn, RowToEvaluate, rowIn, noCode}
+use Rattle.fold_memory.specs.WorkMap.{valueOffset, stateBytes}
+use Rattle.ternary_step.specs.StateMap.{codeAt, valueIn, Coded, literalIn, RowToEvaluate, rowIn, noCode}
 
 -- ---- codes
 
@@ -39,7 +40,7 @@ is-code r v e = (e, rw e (code-below v))
 -- ---- a literal, and a gate of literals
 
 -- The XOR with 1 inverts, and that with 0 does not.
-pub literal-by : (w : List ℕ) (l r : ℕ) → r ≡ codeOf (xor3 (valueOf (l % 2)) (valueOf (byteAt w (valuePlace (l / 2))))) → IsCode r (literalIn w l)
+pub literal-by : (w : List ℕ) (l r : ℕ) → r ≡ codeOf (xor3 (valueOf (l % 2)) (valueOf (byteAt w (valueOffset (l / 2))))) → IsCode r (literalIn w l)
 unfolding xor3
 literal-by w l r h = go (l % 2) (omega arith) h
   where
@@ -48,11 +49,25 @@ literal-by w l r h = go (l % 2) (omega arith) h
     go (suc zero) k e = is-code r (not3 (valueIn w (l / 2))) e
     go (suc (suc b)) k e = absurd (omega arith)
 
-pub gate-of-two : (g : Ternary → Ternary → Ternary) (a b : Ternary) (x y r : ℕ) → IsCode x a → IsCode y b → r ≡ codeOf (g (valueOf x) (valueOf y)) → r ≡ codeOf (g a b)
+gate-of-two : (g : Ternary → Ternary → Ternary) (a b : Ternary) (x y r : ℕ) → IsCode x a → IsCode y b → r ≡ codeOf (g (valueOf x) (valueOf y)) → r ≡ codeOf (g a b)
 gate-of-two g a b x y r p q h = h ∙ rw (p .0, q .0, value-of-code a, value-of-code b) refl
 
-pub gate-of-three : (g : Ternary → Ternary → Ternary → Ternary) (a b c : Ternary) (x y z r : ℕ) → IsCode x a → IsCode y b → IsCode z c → r ≡ codeOf (g (valueOf x) (valueOf y) (valueOf z)) → r ≡ codeOf (g a b c)
+gate-of-three : (g : Ternary → Ternary → Ternary → Ternary) (a b c : Ternary) (x y z r : ℕ) → IsCode x a → IsCode y b → IsCode z c → r ≡ codeOf (g (valueOf x) (valueOf y) (valueOf z)) → r ≡ codeOf (g a b c)
 gate-of-three g a b c x y z r p q s h = h ∙ rw (p .0, q .0, s .0, value-of-code a, value-of-code b, value-of-code c) refl
+
+pub and-of : (w : List ℕ) (l m x y r : ℕ) → IsCode x (literalIn w l) → IsCode y (literalIn w m) → r ≡ codeOf (and3 (valueOf x) (valueOf y)) → r ≡ codeOf (and3 (literalIn w l) (literalIn w m))
+and-of w l m = gate-of-two and3 (literalIn w l) (literalIn w m)
+
+pub xor-of : (w : List ℕ) (l m x y r : ℕ) → IsCode x (literalIn w l) → IsCode y (literalIn w m) → r ≡ codeOf (xor3 (valueOf x) (valueOf y)) → r ≡ codeOf (xor3 (literalIn w l) (literalIn w m))
+xor-of w l m = gate-of-two xor3 (literalIn w l) (literalIn w m)
+
+pub mux-of : (w : List ℕ) (l m n x y z r : ℕ) → IsCode x (literalIn w l) → IsCode y (literalIn w m) → IsCode z (literalIn w n) → r ≡ codeOf (mux3 (valueOf x) (valueOf y) (valueOf z))
+    → r ≡ codeOf (mux3 (literalIn w l) (literalIn w m) (literalIn w n))
+mux-of w l m n = gate-of-three mux3 (literalIn w l) (literalIn w m) (literalIn w n)
+
+-- A row's byte is a code.
+pub code-small : (w : List ℕ) (x : ℕ) → Coded w → x < mostOriginalRows → byteAt w (valueOffset x) < 3
+code-small w x C h = C .code x h
 
 -- ---- a row, by kind
 
@@ -78,8 +93,8 @@ module _ (w : List ℕ) (r : Fields) (base j : ℕ) (R : RowToEvaluate w r base 
   is-held : r .kind ≡ 2 → (j < mostOriginalRegisters) × (codeAt w base j < 3)
   is-held e = R .held (ap (λ (k : ℕ). isRegister (rowFromFields k (r .reset) (r .a) (r .b) (r .c))) e)
 
-  pub register-asks : r .kind ≡ 2 → (base ≤ statePlace lastState) × ((j < mostOriginalRegisters) × (foldWorkBytes ≤ length w))
-  register-asks e = (R .base-small, (is-held e .0, R .coded .room))
+  pub register-asks : r .kind ≡ 2 → (j < mostOriginalRegisters) × (base + stateBytes ≤ length w)
+  register-asks e = (is-held e .0, R .room)
 
   -- What is answered for the row.
   abbrev IsValue : ℕ → Type 0

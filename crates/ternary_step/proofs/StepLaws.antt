@@ -5,20 +5,21 @@ use mathlib.Core.Path.{_≡_, refl, sym, ap, _∙_, subst}
 use mathlib.Core.Bool.{Bool, true, false, cond, false≢true}
 use mathlib.Core.List.{List, [], _∷_, _++_}
 use native.Mathlib.Omega.{arith}
-use native.Mathlib.Decide.{decLt, ℕ-discrete}
+use native.Mathlib.Decide.{ℕ-discrete}
 use native.Mathlib.Nat.{mul-le-mul-right, pow-le-pow-right}
 use lib.Pow.{pow-add, shl-exact}
 use lib.Dec.{eqb}
 use borrow.Author.Tests.{eq-eqb, ne-eqb}
 use lib.ListN.{length, set}
 use lib.Seq.{sets, getD-set-same, getD-set-other}
+use Rattle.memory.specs.Lists.{countIf}
 use Rattle.memory.specs.Fields.{IsBytes, byteAt, u16Bytes}
 use Rattle.memory.specs.Frames.{KeptOutside}
 use Rattle.memory.proofs.TestLaws.{last-or}
 use Rattle.memory.proofs.FrameLaws.{kept-set, kept-at, kept-join, kept-sets, u16-kept, u16-back}
 use Rattle.ternary.specs.Ternary.{Ternary, X, codeOf, valueOf}
 use Rattle.ternary.proofs.RuleLaws.{value-of-code, code-below}
-use Rattle.netlist.specs.Limits.{mostRows, mostOriginalRows, mostOriginalRegisters, foldWorkBytes, lastState}
+use Rattle.netlist.specs.Limits.{mostRows, mostOriginalRows, mostOriginalRegisters}
 use Rattle.netlist.specs.Rows.{Row, RowFields, register, decodeRow, rowAt, onRegister, isRegister, constant}
 use Rattle.netlist.specs.FileFormat.{rowOffset, readFields, netlistOf}
 use Rattle.netlist.specs.Simulation.{rowValue}
@@ -26,83 +27,71 @@ use Rattle.lasso.specs.TernaryRun.{ternaryLogic}
 use Rattle.netlist.specs.WellFormed.{OperandsBelow}
 use Rattle.netlist.proofs.SimulationLaws.{row-cong}
 use Rattle.lasso.specs.Generators.{stateValue}
-use Rattle.blockfile.specs.RowCode.{fieldsIn, ifKnown}
+use Rattle.blockfile.specs.RowCode.{fieldsIn, fieldsFrom, ifKnown}
 use Rattle.blockfile.proofs.RowCodeLaws.{kind-known}
 use Rattle.blockfile.specs.declared.Fields.{Fields}
 use Rattle.blockfile.proofs.CountLaws.{count-next, count-place, sorts-by, count-some-le}
-use Rattle.ternary_step.specs.StateMap.{statePlace, valuePlace, nextPlace, codeAt, stateBytes, Packed, registersBefore, stateCodes, valueIn, stepValue, Coded, RowToEvaluate, rowIn, noCode, AtRow, Evaluated, NextsListed, Started}
-use Rattle.ternary_step.specs.WorkMap.{knownPlace}
+use Rattle.fold_memory.specs.WorkMap.{valueOffset, nextOffset, stateBytes, stateOffset}
+use Rattle.ternary_step.specs.StateMap.{codeAt, Packed, registersBefore, stateCodes, valueIn, stepValue, Coded, RowToEvaluate, rowIn, noCode, AtRow, Evaluated, NextsListed, Started}
 use Rattle.ternary_step.proofs.CodeLaws.{packed-at, packed-small, packed-more, packed-kept}
-use Rattle.ternary_step.proofs.RegisterLaws.{register-row, reset-code, row-held, before-less, codes-register, codes-other, codes-length, codes-at, state-held, step-value}
+use Rattle.ternary_step.proofs.RegisterLaws.{register-row, before-all, reset-code, row-held, before-less, codes-register, codes-other, codes-length, codes-at, state-held, step-value}
 
 -- ---- the parts of the memory
 
 -- The values' part, and the part of state t.
 abbrev pub ValuesKept : List ℕ → List ℕ → Type 0
-ValuesKept w w′ = KeptOutside (valuePlace 0) (valuePlace mostOriginalRows) w w′
+ValuesKept w w′ = KeptOutside (valueOffset 0) (valueOffset mostOriginalRows) w w′
 
 abbrev pub StateKept : ℕ → List ℕ → List ℕ → Type 0
-StateKept t w w′ = KeptOutside (statePlace t) (statePlace t + stateBytes) w w′
+StateKept t w w′ = KeptOutside (stateOffset t) (stateOffset t + stateBytes) w w′
 
--- The parts of state 0 and of the list, with all between them.
+-- The part of the list and of state 0.
 abbrev pub StartKept : List ℕ → List ℕ → Type 0
-StartKept w w′ = KeptOutside (statePlace 0) (nextPlace mostOriginalRegisters) w w′
-
--- State t stands before the values, or it is state 256 and stands behind them.
-pub place-early : (t : ℕ) → t < lastState → statePlace t ≡ 16384 + 64 * t
-place-early t h = let q : t / lastState ≡ 0 = omega arith in omega arith
-
-pub place-case {ℓ} : {P : Type ℓ} (t : ℕ) → t ≤ lastState → (t < lastState → statePlace t ≡ 16384 + 64 * t → P) → (t ≡ lastState → statePlace t ≡ valuePlace mostOriginalRows → P) → P
-place-case t h f g = elim (decLt t lastState) [
-  | yes k ↦ f k (place-early t k)
-  | no k ↦ (let e : t ≡ lastState = omega arith in g e (ap statePlace e))
-]
-
--- Every state stands between the first one's place and the known bytes.
-pub place-within : (t : ℕ) → t ≤ lastState → (statePlace 0 ≤ statePlace t) × (statePlace t + stateBytes ≤ knownPlace 0)
-place-within t h = place-case t h (λ d e. (omega arith, omega arith)) (λ d e. (omega arith, omega arith))
-
-values-apart : (t k : ℕ) → t ≤ lastState → k < stateBytes → valuePlace 0 ≤ statePlace t + k → statePlace t + k < valuePlace mostOriginalRows → ⊥
-values-apart t k h l a b = place-case t h (λ d e. omega arith) (λ d e. omega arith)
-
-states-apart : (m t k : ℕ) → m ≤ lastState → t ≤ lastState → (t ≡ m → ⊥) → k < stateBytes → statePlace m ≤ statePlace t + k → statePlace t + k < statePlace m + stateBytes → ⊥
-states-apart m t k h l n s a b =
-    place-case t l
-    (λ d e. place-case m h (λ d′ e′. n (omega arith)) (λ d′ e′. omega arith))
-    (λ d e. place-case m h (λ d′ e′. omega arith) (λ d′ e′. n (omega arith)))
+StartKept w w′ = KeptOutside (nextOffset 0) (stateOffset 1) w w′
 
 -- States stay while values change, and while another state does.
-pub packed-values : (w w′ : List ℕ) (t : ℕ) (cs : List ℕ) → t ≤ lastState → ValuesKept w w′ → Packed w (statePlace t) cs → Packed w′ (statePlace t) cs
-packed-values w w′ t cs h K P = packed-kept w (statePlace t) cs P w′ (λ k l. kept-at K (statePlace t + k) (values-apart t k h l))
+pub packed-values : (w w′ : List ℕ) (t : ℕ) (cs : List ℕ) → ValuesKept w w′ → Packed w (stateOffset t) cs → Packed w′ (stateOffset t) cs
+packed-values w w′ t cs K P = packed-kept w (stateOffset t) cs P w′ (λ k l. K .after (stateOffset t + k) (omega arith))
 
-pub packed-state : (w w′ : List ℕ) (m t : ℕ) (cs : List ℕ) → m ≤ lastState → t ≤ lastState → (t ≡ m → ⊥) → StateKept m w w′ → Packed w (statePlace t) cs → Packed w′ (statePlace t) cs
-packed-state w w′ m t cs h l n K P = packed-kept w (statePlace t) cs P w′ (λ k b. kept-at K (statePlace t + k) (states-apart m t k h l n b))
+pub packed-state : (w w′ : List ℕ) (m t : ℕ) (cs : List ℕ) → (t ≡ m → ⊥) → StateKept m w w′ → Packed w (stateOffset t) cs → Packed w′ (stateOffset t) cs
+packed-state w w′ m t cs n K P = packed-kept w (stateOffset t) cs P w′ (λ k l. kept-at K (stateOffset t + k) (λ a b. n (omega arith)))
 
 -- Values stay while a state changes.
-pub value-kept : (w w′ : List ℕ) (t x : ℕ) → t ≤ lastState → x < mostOriginalRows → StateKept t w w′ → byteAt w′ (valuePlace x) ≡ byteAt w (valuePlace x)
-value-kept w w′ t x h l K = kept-at K (valuePlace x) (λ a b. place-case t h (λ d e. omega arith) (λ d e. omega arith))
+pub value-kept : (w w′ : List ℕ) (t x : ℕ) → x < mostOriginalRows → StateKept t w w′ → byteAt w′ (valueOffset x) ≡ byteAt w (valueOffset x)
+value-kept w w′ t x l K = K .before (valueOffset x) (omega arith)
 
-pub coded-kept : (w w′ : List ℕ) (t : ℕ) → t ≤ lastState → StateKept t w w′ → Coded w → Coded w′
-coded-kept w w′ t h K C = let r = C .room in record { room = omega (arith, K .long); code = λ x l. rw (value-kept w w′ t x h l K) (C .code x l) }
+pub coded-kept : (w w′ : List ℕ) (t : ℕ) → StateKept t w w′ → Coded w → Coded w′
+coded-kept w w′ t K C = let r = C .room in record { room = omega (arith, K .long); code = λ x l. rw (value-kept w w′ t x l K) (C .code x l) }
 
 -- Both stay while the list changes.
-module _ {lo hi : ℕ} {w w′ : List ℕ} (K : KeptOutside lo hi w w′) (from : nextPlace 0 ≤ lo) where
+module _ {lo hi : ℕ} {w w′ : List ℕ} (K : KeptOutside lo hi w w′) (from : nextOffset 0 ≤ lo) (to : hi ≤ stateOffset 0) where
   coded-listed : Coded w → Coded w′
-  coded-listed C = let r = C .room in record { room = omega (arith, K .long); code = λ x l. rw (K .before (valuePlace x) (omega arith)) (C .code x l) }
+  coded-listed C = let r = C .room in record { room = omega (arith, K .long); code = λ x l. rw (K .before (valueOffset x) (omega arith)) (C .code x l) }
 
-  packed-listed : (t : ℕ) (cs : List ℕ) → t ≤ lastState → Packed w (statePlace t) cs → Packed w′ (statePlace t) cs
-  packed-listed t cs h P = let q = place-within t h in packed-kept w (statePlace t) cs P w′ (λ k l. K .before (statePlace t + k) (omega arith))
+  packed-listed : (t : ℕ) (cs : List ℕ) → Packed w (stateOffset t) cs → Packed w′ (stateOffset t) cs
+  packed-listed t cs P = packed-kept w (stateOffset t) cs P w′ (λ k l. K .after (stateOffset t + k) (omega arith))
 
--- A code fits behind the bits of those before it.
-pub put-exact : (x d : ℕ) → x < 3 → d < 4 → (x * 2 ^ (d * 2)) % 2 ^ 8 ≡ x * 2 ^ (d * 2)
-put-exact x d h l = shl-exact 2 (d * 2) 8 (omega arith) (omega arith)
+-- Register j's code fits behind the bits of those before it.
+put-exact : (x j : ℕ) → x < 3 → (x * 2 ^ (j % 4 * 2)) % 2 ^ 8 ≡ x * 2 ^ (j % 4 * 2)
+put-exact x j h = shl-exact 2 (j % 4 * 2) 8 (omega arith) (omega arith)
 
-pub put-fits : (b x d : ℕ) → x < 3 → d < 4 → b < 2 ^ (d * 2) → b + (x * 2 ^ (d * 2)) % 2 ^ 8 < 2 ^ 8
-put-fits b x d h l s =
+pub put-fits : (b x j : ℕ) → x < 3 → b < 2 ^ (j % 4 * 2) → b + (x * 2 ^ (j % 4 * 2)) % 2 ^ 8 < 2 ^ 8
+put-fits b x j h s =
+    let d = j % 4 in
     let D = 2 ^ (d * 2) in
     let f : x * D ≤ 2 * D = mul-le-mul-right D (omega arith) in
     let g : 2 ^ (d * 2 + 2) ≤ 2 ^ 8 = pow-le-pow-right {n = 2} (omega arith) {i = d * 2 + 2} {j = 8} (omega arith) in
-    omega (arith, put-exact x d h l, pow-add 2 (d * 2) 2)
+    omega (arith, put-exact x j h, pow-add 2 (d * 2) 2)
+
+pub code-put : (w : List ℕ) (p x j : ℕ) → x < 3 → set w p (byteAt w p + (x * 2 ^ (j % 4 * 2)) % 2 ^ 8) ≡ set w p (byteAt w p + x * 2 ^ (j % 4 * 2))
+code-put w p x j h = ap (λ (n : ℕ). set w p (byteAt w p + n)) (put-exact x j h)
+
+-- All n rows are done, since the first i are no fewer.
+pub count-all : (rows : List Row) (i n j : ℕ) → i ≤ n → n ≤ i → n ≡ length rows → j ≡ registersBefore rows i → j ≡ countIf isRegister rows
+count-all rows i n j a b count e = let q : i ≡ length rows = omega arith in e ∙ ap (registersBefore rows) q ∙ before-all rows
+
+pub started-all : (rows : List Row) (w : List ℕ) (i n : ℕ) → i ≤ n → n ≤ i → Started rows w i → Started rows w n
+started-all rows w i n a b S = let q : i ≡ n = omega arith in subst (Started rows w) q S
 
 -- ---- row i of a ready file
 
@@ -121,6 +110,16 @@ module _ {f : List ℕ} {n i j : ℕ} (A : AtRow f n i j) where
 
   pub number-small : j ≤ mostOriginalRegisters
   number-small = let h = row-within in omega (arith, A .number, A .ready .rows .registers, count-some-le isRegister constant (netlistOf f) i .1)
+
+  pub number-fits : j < 2 ^ 32
+  number-fits = let h = number-small in omega arith
+
+  pub count-fits : j + 1 < 2 ^ 64
+  count-fits = let h = number-small in omega arith
+
+  -- Its value changes no other byte.
+  pub values-set : (w : List ℕ) (x : ℕ) → ValuesKept w (set w (valueOffset i) x)
+  values-set w x = let s = row-small in kept-set (valueOffset 0) (valueOffset mostOriginalRows) (valueOffset i) x w (omega arith) (omega arith)
 
   module _ (r : Fields) (read : fieldsIn r ≡ readFields f i) where
     row-is : rowAt (netlistOf f) i ≡ decodeRow (fieldsIn r)
@@ -156,23 +155,23 @@ module _ {f : List ℕ} {n i j : ℕ} (A : AtRow f n i j) where
 
     -- ---- its value
 
-    module _ {w : List ℕ} {t base : ℕ} (E : Evaluated (netlistOf f) w t i) (place : base ≡ statePlace t) where
+    module _ {w : List ℕ} {t base : ℕ} (E : Evaluated (netlistOf f) w t i) (at-state : base ≡ stateOffset t) where
       -- What the memory holds of a register.
       held-code : isRegister (rowAt (netlistOf f) i) ≡ true → codeAt w base j ≡ codeOf (stateValue (netlistOf f) i t)
       held-code e =
           let s = number-small in
-          rw (place, A .number)
-          (packed-at w (statePlace t) (stateCodes (netlistOf f) t (length (netlistOf f))) (E .state) (registersBefore (netlistOf f) i) (omega (arith, A .ready .rows .registers, count-place isRegister constant (netlistOf f) i row-within e))
+          rw (at-state, A .number)
+          (packed-at w (stateOffset t) (stateCodes (netlistOf f) t (length (netlistOf f))) (E .state) (registersBefore (netlistOf f) i) (omega (arith, A .ready .rows .registers, count-place isRegister constant (netlistOf f) i row-within e))
           ∙ codes-at (netlistOf f) t (length (netlistOf f)) i (omega arith) row-within e)
 
-      pub row-asks : t < lastState → RowToEvaluate w r base j
-      row-asks h =
+      pub row-asks : RowToEvaluate w r base j
+      row-asks =
           let s = row-small in record {
             coded = E .coded;
             bound = i;
             few = omega arith;
             operands = subst (OperandsBelow i) row-is (A .ready .rows .checked .operands i row-within);
-            base-small = omega arith;
+            room = rw at-state (E .room);
             held = λ e. (register-small e, rw (held-code (register-is ∙ e)) (code-below (stateValue (netlistOf f) i t)));
           }
 
@@ -190,32 +189,31 @@ module _ {f : List ℕ} {n i j : ℕ} (A : AtRow f n i j) where
           ∙ row-cong ternaryLogic (stateValue (netlistOf f) i t) (λ l p. X) (valueIn w) (stepValue (netlistOf f) t) i (λ x h. ap valueOf (E .values x h) ∙ value-of-code (stepValue (netlistOf f) t x)) (rowAt (netlistOf f) i) (o i row-within)
           ∙ sym (step-value (netlistOf f) o t i row-within)
 
-      pub evaluated-more : (x : ℕ) → t < lastState → x ≡ ifKnown (r .kind) (codeOf (rowIn w r base j)) noCode → ValuesKept w (set w (valuePlace i) x) × Evaluated (netlistOf f) (set w (valuePlace i) x) t (i + 1)
-      evaluated-more x h e =
+      evaluated-more : (x : ℕ) → x ≡ ifKnown (r .kind) (codeOf (rowIn w r base j)) noCode → Evaluated (netlistOf f) (set w (valueOffset i) x) t (i + 1)
+      evaluated-more x e =
           let s = row-small in
-          let K : ValuesKept w (set w (valuePlace i) x) = kept-set (valuePlace 0) (valuePlace mostOriginalRows) (valuePlace i) x w (omega arith) (omega arith) in
+          let K : ValuesKept w (set w (valueOffset i) x) = values-set w x in
           let c = E .coded .room in
-          let here : byteAt (set w (valuePlace i) x) (valuePlace i) ≡ x = getD-set-same w (valuePlace i) x 0 (omega arith) in
-          let v : x ≡ codeOf (stepValue (netlistOf f) t i) = e ∙ kind-known (r .kind) (codeOf (rowIn w r base j)) noCode kind-is ∙ ap codeOf row-value-is in (
-            K,
-            record {
-              coded = record {
-                room = omega (arith, K .long);
-                code = λ y l. at-or y
-                    (λ q. rw (q, here, v) (code-below (stepValue (netlistOf f) t i)))
-                    (λ q. rw q (E .coded .code y l));
-              };
-              state = packed-values w (set w (valuePlace i) x) t (stateCodes (netlistOf f) t (length (netlistOf f))) (omega arith) K (E .state);
-              values = λ y l. last-or y i (omega arith)
-                  (λ b. getD-set-other w (valuePlace i) (valuePlace y) x 0 (λ (q : valuePlace y ≡ valuePlace i). omega arith) ∙ E .values y b)
-                  (λ q. rw q (here ∙ v));
-            },
-          )
+          let here : byteAt (set w (valueOffset i) x) (valueOffset i) ≡ x = getD-set-same w (valueOffset i) x 0 (omega arith) in
+          let v : x ≡ codeOf (stepValue (netlistOf f) t i) = e ∙ kind-known (r .kind) (codeOf (rowIn w r base j)) noCode kind-is ∙ ap codeOf row-value-is in
+          record {
+            coded = record {
+              room = omega (arith, K .long);
+              code = λ y l. at-or y
+                  (λ q. rw (q, here, v) (code-below (stepValue (netlistOf f) t i)))
+                  (λ q. rw q (E .coded .code y l));
+            };
+            room = rw (K .long) (E .room);
+            state = packed-values w (set w (valueOffset i) x) t (stateCodes (netlistOf f) t (length (netlistOf f))) K (E .state);
+            values = λ y l. last-or y i (omega arith)
+                (λ b. getD-set-other w (valueOffset i) (valueOffset y) x 0 (λ (q : valueOffset y ≡ valueOffset i). omega arith) ∙ E .values y b)
+                (λ q. rw q (here ∙ v));
+          }
         where
-          at-or : {P : Type 0} (y : ℕ) → (y ≡ i → P) → (byteAt (set w (valuePlace i) x) (valuePlace y) ≡ byteAt w (valuePlace y) → P) → P
-          at-or y p q = elim (ℕ-discrete y i) [ yes k ↦ p k | no k ↦ q (getD-set-other w (valuePlace i) (valuePlace y) x 0 (λ (z : valuePlace y ≡ valuePlace i). k (omega arith))) ]
+          at-or : {P : Type 0} (y : ℕ) → (y ≡ i → P) → (byteAt (set w (valueOffset i) x) (valueOffset y) ≡ byteAt w (valueOffset y) → P) → P
+          at-or y p q = elim (ℕ-discrete y i) [ yes k ↦ p k | no k ↦ q (getD-set-other w (valueOffset i) (valueOffset y) x 0 (λ (z : valueOffset y ≡ valueOffset i). k (omega arith))) ]
 
-    -- ---- its place in state 0 and in the list
+    -- ---- it is put in state 0 and in the list
 
     module _ (is-register : isRegister (decodeRow (fieldsIn r)) ≡ true) where
       pub register-at : rowAt (netlistOf f) i ≡ register (r .reset) (r .a) (r .b)
@@ -236,36 +234,36 @@ module _ {f : List ℕ} {n i j : ℕ} (A : AtRow f n i j) where
         number-is : length (stateCodes (netlistOf f) 0 i) ≡ j
         number-is = let l = row-within in codes-length (netlistOf f) 0 i (omega arith) ∙ sym (A .number)
 
-        put-small : byteAt w (statePlace 0 + j / 4) < 2 ^ (j % 4 * 2)
+        put-small : byteAt w (stateOffset 0 + j / 4) < 2 ^ (j % 4 * 2)
         put-small =
             rw (← number-is)
-            (packed-small w (statePlace 0) (stateCodes (netlistOf f) 0 i) (S .part) bytes (omega (arith, number-is, register-small is-register)))
+            (packed-small w (stateOffset 0) (stateCodes (netlistOf f) 0 i) (S .part) bytes (omega (arith, number-is, register-small is-register)))
 
-        pub put-asks : ((statePlace 0 ≤ statePlace lastState) × ((j < mostOriginalRegisters) × (foldWorkBytes ≤ length w))) × ((r .reset < 3) × (byteAt w (statePlace 0 + j / 4) < 2 ^ (j % 4 * 2)))
-        put-asks = let h = reset-in in ((omega arith, (register-small is-register, S .coded .room)), (omega arith, put-small))
+        pub put-asks : ((j < mostOriginalRegisters) × (stateOffset 0 + stateBytes ≤ length w)) × ((r .reset < 3) × (byteAt w (stateOffset 0 + j / 4) < 2 ^ (j % 4 * 2)))
+        put-asks = let h = reset-in in ((register-small is-register, S .room), (omega arith, put-small))
 
-        module _ {w₁ : List ℕ} (put : w₁ ≡ set w (statePlace 0 + j / 4) (byteAt w (statePlace 0 + j / 4) + r .reset * 2 ^ (j % 4 * 2))) where
+        module _ {w₁ : List ℕ} (put : w₁ ≡ set w (stateOffset 0 + j / 4) (byteAt w (stateOffset 0 + j / 4) + r .reset * 2 ^ (j % 4 * 2))) where
           put-kept : StateKept 0 w w₁
-          put-kept = let s = register-small is-register in rw put (kept-set (statePlace 0) (statePlace 0 + stateBytes) (statePlace 0 + j / 4) _ w (omega arith) (omega arith))
+          put-kept = let s = register-small is-register in rw put (kept-set (stateOffset 0) (stateOffset 0 + stateBytes) (stateOffset 0 + j / 4) _ w (omega arith) (omega arith))
 
-          pub list-asks : (j < mostOriginalRegisters) × (foldWorkBytes ≤ length w₁)
+          pub list-asks : (j < mostOriginalRegisters) × (stateOffset 0 ≤ length w₁)
           list-asks = let c = S .coded .room in (register-small is-register, omega (arith, put-kept .long))
 
-          put-packed : Packed w₁ (statePlace 0) (stateCodes (netlistOf f) 0 (i + 1))
+          put-packed : Packed w₁ (stateOffset 0) (stateCodes (netlistOf f) 0 (i + 1))
           put-packed =
               let s = register-small is-register in
-              let c = S .coded .room in
+              let c = S .room in
               let h = reset-in in
               let q : stateCodes (netlistOf f) 0 i ++ (r .reset ∷ []) ≡ stateCodes (netlistOf f) 0 (i + 1) =
               ap (λ (y : ℕ). stateCodes (netlistOf f) 0 i ++ (y ∷ [])) reset-is ∙ sym (codes-register (netlistOf f) 0 i (register-is ∙ is-register)) in
-              subst (Packed w₁ (statePlace 0)) q
+              subst (Packed w₁ (stateOffset 0)) q
               (rw (put, ← number-is)
-              (packed-more w (statePlace 0) (stateCodes (netlistOf f) 0 i) (S .part) (r .reset) (omega arith) (omega (arith, number-is)) (omega arith)
+              (packed-more w (stateOffset 0) (stateCodes (netlistOf f) 0 i) (S .part) (r .reset) (omega arith) (omega (arith, number-is)) (omega arith)
               (rw number-is put-small)))
 
-          module _ {w₂ : List ℕ} (small : r .a < 2 ^ 16) (listed : w₂ ≡ sets w₁ (nextPlace j) (u16Bytes (r .a))) where
-            list-kept : KeptOutside (nextPlace j) (nextPlace (j + 1)) w₁ w₂
-            list-kept = rw listed (kept-sets (nextPlace j) (nextPlace (j + 1)) (u16Bytes (r .a)) w₁ (nextPlace j) (omega arith) (omega arith))
+          module _ {w₂ : List ℕ} (small : r .a < 2 ^ 16) (listed : w₂ ≡ sets w₁ (nextOffset j) (u16Bytes (r .a))) where
+            list-kept : KeptOutside (nextOffset j) (nextOffset (j + 1)) w₁ w₂
+            list-kept = rw listed (kept-sets (nextOffset j) (nextOffset (j + 1)) (u16Bytes (r .a)) w₁ (nextOffset j) (omega arith) (omega arith))
 
             nexts-more : NextsListed (netlistOf f) w₂ (i + 1)
             nexts-more x h e =
@@ -273,32 +271,54 @@ module _ {f : List ℕ} {n i j : ℕ} (A : AtRow f n i j) where
                 (λ l.
                 let less = before-less (netlistOf f) i x (let k = row-within in omega arith) l e in
                 let k = A .number in
-                u16-kept list-kept (nextPlace (registersBefore (netlistOf f) x)) (λ y a b c d. omega arith)
-                ∙ u16-kept put-kept (nextPlace (registersBefore (netlistOf f) x)) (λ y a b c d. omega arith)
+                let s = register-small is-register in
+                u16-kept list-kept (nextOffset (registersBefore (netlistOf f) x)) (λ y a b c d. omega arith)
+                ∙ u16-kept put-kept (nextOffset (registersBefore (netlistOf f) x)) (λ y a b c d. omega arith)
                 ∙ S .nexts x l e)
                 (λ q.
                 let s = register-small is-register in
                 let c = S .coded .room in
                 let k = put-kept .long in
-                rw (q, ← A .number, listed) (u16-back w₁ (nextPlace j) (r .a) small (omega arith) ∙ sym (on-register 0 (λ s a l. a))))
+                rw (q, ← A .number, listed) (u16-back w₁ (nextOffset j) (r .a) small (omega arith) ∙ sym (on-register 0 (λ s a l. a))))
 
             pub started-more : StartKept w w₂ × Started (netlistOf f) w₂ (i + 1)
             started-more =
                 let s = register-small is-register in (
-                  kept-join (statePlace 0) (nextPlace mostOriginalRegisters) w w₁ w₂ put-kept list-kept (omega arith) (omega arith) (omega arith) (omega arith),
+                  kept-join (nextOffset 0) (stateOffset 1) w w₁ w₂ put-kept list-kept (omega arith) (omega arith) (omega arith) (omega arith),
                   record {
-                    coded = coded-listed list-kept (omega arith) (coded-kept w w₁ 0 (omega arith) put-kept (S .coded));
-                    part = packed-listed list-kept (omega arith) 0 (stateCodes (netlistOf f) 0 (i + 1)) (omega arith) put-packed;
+                    coded = coded-listed list-kept (omega arith) (omega arith) (coded-kept w w₁ 0 put-kept (S .coded));
+                    room = rw (list-kept .long, put-kept .long) (S .room);
+                    part = packed-listed list-kept (omega arith) (omega arith) 0 (stateCodes (netlistOf f) 0 (i + 1)) put-packed;
                     nexts = nexts-more;
-                    clear = λ t h l. packed-listed list-kept (omega arith) t [] l (packed-state w w₁ 0 t [] (omega arith) l (λ (e : t ≡ 0). omega arith) put-kept (S .clear t h l));
+                    clear = λ t h l. packed-listed list-kept (omega arith) (omega arith) t [] (packed-state w w₁ 0 t [] (λ (e : t ≡ 0). omega arith) put-kept (S .clear t h l));
                   },
                 )
 
     pub started-other : (w : List ℕ) → isRegister (decodeRow (fieldsIn r)) ≡ false → Started (netlistOf f) w i → Started (netlistOf f) w (i + 1)
     started-other w e S = record {
       coded = S .coded;
-      part = subst (Packed w (statePlace 0)) (sym (codes-other (netlistOf f) 0 i (register-is ∙ e))) (S .part);
+      room = S .room;
+      part = subst (Packed w (stateOffset 0)) (sym (codes-other (netlistOf f) 0 i (register-is ∙ e))) (S .part);
       nexts = λ x h q. last-or x i (omega arith) (λ l. S .nexts x l q)
           (λ k. absurd (false≢true (sym (register-is ∙ e) ∙ ap (λ (y : ℕ). isRegister (rowAt (netlistOf f) y)) (sym k) ∙ q)));
       clear = S .clear;
     }
+
+  -- ---- the row by the offset at which it stands
+
+  module _ {offset : ℕ} (at-row : offset ≡ rowOffset i) where
+    pub read-at-asks : offset + 8 ≤ length f
+    read-at-asks = rw at-row (read-asks .1)
+
+    module _ {r : Fields} (read : fieldsIn r ≡ fieldsFrom f offset) {w : List ℕ} {t base : ℕ} (E : Evaluated (netlistOf f) w t i) (at-state : base ≡ stateOffset t) where
+      row-read : fieldsIn r ≡ readFields f i
+      row-read = read ∙ ap (fieldsFrom f) at-row
+
+      pub value-asks : RowToEvaluate w r base j
+      value-asks = row-asks r row-read E at-state
+
+      pub value-number : {k : ℕ} → k ≡ j + cond (eqb (r .kind) 2) 1 0 → k ≡ registersBefore (netlistOf f) (i + 1)
+      value-number {k} n = number-next r row-read k n
+
+      pub value-put : {x : ℕ} → x ≡ ifKnown (r .kind) (codeOf (rowIn w r base j)) noCode → Evaluated (netlistOf f) (set w (valueOffset i) x) t (i + 1)
+      value-put {x} e = evaluated-more r row-read E at-state x e

@@ -1,3 +1,2 @@
--- Fold's work memory: the states and rows' values of the three-valued run, and what stands there later.
-pub mod WorkMap
+-- The states and rows' values of the three-valued run in the lent work memory.
 pub mod StateMap

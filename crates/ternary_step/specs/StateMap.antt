@@ -1,5 +1,5 @@
--- Fold's work memory while the lasso is sought: the states, four registers to a byte, each row's value, a byte each, and the registers' next-value literals, two bytes each.
--- Interface: ClearedWork, statePlace, valuePlace, nextPlace, Packed, Stored, Valued.
+-- Work memory while the lasso is sought: each row's value, a byte each, the registers' next-value literals, two bytes each, and the states, four registers to a byte.
+-- Interface: ClearedWork, Packed, Stored, Valued.
 -- Assumes nothing.
 use Prim.Native.Nat.{ℕ, _+_, _*_, _<_, _≤_, _/_, _%_, _^_}
 use mathlib.Core.Path.{_≡_}
@@ -11,33 +11,20 @@ use Rattle.memory.specs.Fields.{byteAt, u16At}
 use Rattle.ternary.specs.Ternary.{Ternary, X, codeOf, valueOf}
 use Rattle.netlist.specs.Limits.{mostOriginalRows, mostOriginalRegisters, foldWorkBytes, lastState}
 use Rattle.netlist.specs.Rows.{Row, decodeRow, rowAt, onRegister, isRegister}
-use Rattle.netlist.specs.FileFormat.{rowOffset, netlistOf}
+use Rattle.netlist.specs.FileFormat.{netlistOf}
 use Rattle.netlist.specs.Simulation.{literalValue, rowValue, runValue}
 use Rattle.lasso.specs.TernaryRun.{ternaryLogic}
 use Rattle.netlist.specs.WellFormed.{OperandsBelow, FoldableRows}
 use Rattle.lasso.specs.Generators.{stateValue}
-use Rattle.ternary_step.specs.WorkMap.{knownPlace}
 use Rattle.blockfile.specs.RowCode.{fieldsIn}
 use Rattle.blockfile.specs.declared.Fields.{Fields}
 use Rattle.blockfile.specs.Ready.{Ready}
+use Rattle.fold_memory.specs.WorkMap.{valueOffset, nextOffset, stateBytes, stateOffset}
 
 -- The work memory at the start: long enough, and all 0.
 pub record ClearedWork (w : List ℕ) : Type 0 where
   pub room : foldWorkBytes ≤ length w
   pub zero : (x : ℕ) → byteAt w x ≡ 0
-
--- ---- places
-
--- State t has 64 bytes from here on; between state 255 and state 256 stand the rows' values.
-abbrev pub statePlace : ℕ → ℕ
-statePlace t = 16384 + 64 * t + t / lastState * mostOriginalRows
-
-abbrev pub valuePlace : ℕ → ℕ
-valuePlace i = 32768 + i
-
--- The next-value literal of register j has two bytes from here on, where later stands what is known of the rows.
-abbrev pub nextPlace : ℕ → ℕ
-nextPlace j = knownPlace j
 
 -- ---- a state
 
@@ -50,9 +37,6 @@ abbrev pub codeAt : List ℕ → ℕ → ℕ → ℕ
 codeAt w base j = pairOf (byteAt w (base + j / 4)) (j % 4)
 
 -- The codes cs stand in the 64 bytes from base on, four to a byte; behind them all bits are 0.
-abbrev pub stateBytes : ℕ
-stateBytes = mostOriginalRegisters / 4
-
 abbrev pub Packed : List ℕ → ℕ → List ℕ → Type 0
 Packed w base cs = (k e : ℕ) → k < stateBytes → e < 4 → pairOf (byteAt w (base + k)) e ≡ getD cs (4 * k + e) 0
 
@@ -68,14 +52,14 @@ nextOf r = onRegister 0 (λ s a l. a) r
 unfoldable pub stateCodes : List Row → ℕ → ℕ → List ℕ
 stateCodes rows t i = joinBelow i (λ x. cond (isRegister (rowAt rows x)) (codeOf (stateValue rows x t) ∷ []) [])
 
--- State t stands in its place.
+-- State t stands at its offset.
 abbrev pub Stored : List Row → List ℕ → ℕ → Type 0
-Stored rows w t = Packed w (statePlace t) (stateCodes rows t (length rows))
+Stored rows w t = Packed w (stateOffset t) (stateCodes rows t (length rows))
 
 -- ---- the rows' values
 
 abbrev pub valueIn : List ℕ → ℕ → Ternary
-valueIn w x = valueOf (byteAt w (valuePlace x))
+valueIn w x = valueOf (byteAt w (valueOffset x))
 
 -- The value of row x in step t of the three-valued run.
 abbrev pub stepValue : List Row → ℕ → ℕ → Ternary
@@ -83,12 +67,12 @@ stepValue rows t x = runValue ternaryLogic rows (λ l. X) (λ s l p. X) t x
 
 -- The values of the first i rows in step t.
 abbrev pub Valued : List Row → List ℕ → ℕ → ℕ → Type 0
-Valued rows w t i = (x : ℕ) → x < i → byteAt w (valuePlace x) ≡ codeOf (stepValue rows t x)
+Valued rows w t i = (x : ℕ) → x < i → byteAt w (valueOffset x) ≡ codeOf (stepValue rows t x)
 
--- The memory is long enough, and each row's byte is a code.
+-- The memory has room for the values and the list, and each row's byte is a code.
 pub record Coded (w : List ℕ) : Type 0 where
-  pub room : foldWorkBytes ≤ length w
-  pub code : (x : ℕ) → x < mostOriginalRows → byteAt w (valuePlace x) < 3
+  pub room : stateOffset 0 ≤ length w
+  pub code : (x : ℕ) → x < mostOriginalRows → byteAt w (valueOffset x) < 3
 
 abbrev pub literalIn : List ℕ → ℕ → Ternary
 literalIn w l = literalValue ternaryLogic (valueIn w) l
@@ -101,7 +85,7 @@ pub record RowToEvaluate (w : List ℕ) (r : Fields) (base j : ℕ) : Type 0 whe
   pub bound : ℕ
   pub few : bound ≤ mostOriginalRows
   pub operands : OperandsBelow bound (decodeRow (fieldsIn r))
-  pub base-small : base ≤ statePlace lastState
+  pub room : base + stateBytes ≤ length w
   pub held : isRegister (decodeRow (fieldsIn r)) ≡ true → (j < mostOriginalRegisters) × (codeAt w base j < 3)
 
 abbrev pub rowIn : List ℕ → Fields → ℕ → ℕ → Ternary
@@ -117,26 +101,10 @@ pub record AtRow (f : List ℕ) (n i j : ℕ) : Type 0 where
   pub within : i < n
   pub number : j ≡ registersBefore (netlistOf f) i
 
--- Rows start to stop - 1 are rows of the file f, which has n, and of one block, whose first row is row start and stands at `first`; `before` registers stand before it.
-pub record InBlock (f : List ℕ) (n start stop first before : ℕ) : Type 0 where
-  pub ready : Ready FoldableRows f n
-  pub starts : start % 63 ≡ 0
-  pub from : start ≤ stop
-  pub few : stop ≤ start + 63
-  pub within : stop ≤ n
-  pub place : first ≡ rowOffset start
-  pub number : before ≡ registersBefore (netlistOf f) start
-
--- Of n rows, those of the block that starts with row start are the rows up to stop - 1.
-pub record BlockStop (start n stop : ℕ) : Type 0 where
-  pub from : start < stop
-  pub few : stop ≤ start + 63
-  pub within : stop ≤ n
-  pub whole : stop < n → stop ≡ start + 63
-
 -- State t and the values of the first i rows in step t stand in the memory.
 pub record Evaluated (rows : List Row) (w : List ℕ) (t i : ℕ) : Type 0 where
   pub coded : Coded w
+  pub room : stateOffset t + stateBytes ≤ length w
   pub state : Stored rows w t
   pub values : Valued rows w t i
 
@@ -144,29 +112,32 @@ pub record Evaluated (rows : List Row) (w : List ℕ) (t i : ℕ) : Type 0 where
 
 -- The next-value literals of the registers among the first i rows stand in the list.
 abbrev pub NextsListed : List Row → List ℕ → ℕ → Type 0
-NextsListed rows w i = (x : ℕ) → x < i → isRegister (rowAt rows x) ≡ true → u16At w (nextPlace (registersBefore rows x)) ≡ nextOf (rowAt rows x)
+NextsListed rows w i = (x : ℕ) → x < i → isRegister (rowAt rows x) ≡ true → u16At w (nextOffset (registersBefore rows x)) ≡ nextOf (rowAt rows x)
 
--- State 0 and the list have the registers of the first i rows, and the places of the other states are clear.
+-- State 0 and the list have the registers of the first i rows, and where the other states stand later all is clear.
 pub record Started (rows : List Row) (w : List ℕ) (i : ℕ) : Type 0 where
   pub coded : Coded w
-  pub part : Packed w (statePlace 0) (stateCodes rows 0 i)
+  pub room : stateOffset 0 + stateBytes ≤ length w
+  pub part : Packed w (stateOffset 0) (stateCodes rows 0 i)
   pub nexts : NextsListed rows w i
-  pub clear : (t : ℕ) → 1 ≤ t → t ≤ lastState → Packed w (statePlace t) []
+  pub clear : (t : ℕ) → 1 ≤ t → t ≤ lastState → Packed w (stateOffset t) []
 
 -- What packing state m from the first n listed literals asks, and the codes of what these show.
 pub record NextReady (w : List ℕ) (n m : ℕ) : Type 0 where
   pub coded : Coded w
   pub few : n ≤ mostOriginalRegisters
   pub known-state : m ≤ lastState
-  pub literals : (j : ℕ) → j < n → u16At w (nextPlace j) / 2 < mostOriginalRows
-  pub clear : Packed w (statePlace m) []
+  pub room : stateOffset m + stateBytes ≤ length w
+  pub literals : (j : ℕ) → j < n → u16At w (nextOffset j) / 2 < mostOriginalRows
+  pub clear : Packed w (stateOffset m) []
 
 abbrev pub shownCodes : List ℕ → ℕ → List ℕ
-shownCodes w n = tabulate n (λ j. codeOf (literalIn w (u16At w (nextPlace j))))
+shownCodes w n = tabulate n (λ j. codeOf (literalIn w (u16At w (nextOffset j))))
 
--- States 0 to m - 1 and the list stand in their places, and the places of the other states are clear.
+-- States 0 to m - 1 and the list stand in the memory, and where the other states stand later all is clear.
 pub record Searched (rows : List Row) (w : List ℕ) (m : ℕ) : Type 0 where
   pub coded : Coded w
+  pub room : stateOffset m ≤ length w
   pub stored : (t : ℕ) → t < m → Stored rows w t
-  pub clear : (t : ℕ) → m ≤ t → t ≤ lastState → Packed w (statePlace t) []
+  pub clear : (t : ℕ) → m ≤ t → t ≤ lastState → Packed w (stateOffset t) []
   pub nexts : NextsListed rows w (length rows)

@@ -9,45 +9,34 @@ ghost use Rattle.memory.specs.Lists.{countIf};
 ghost use Rattle.memory.specs.Fields.{byteAt, u16Bytes};
 ghost use Rattle.memory.specs.Frames.{KeptOutside};
 ghost use Rattle.ternary.specs.Ternary.{and3, xor3, mux3, codeOf};
-ghost use Rattle.netlist.specs.Limits.{mostOriginalRows, mostOriginalRegisters, foldWorkBytes, lastState};
+ghost use Rattle.netlist.specs.Limits.{mostOriginalRows, mostOriginalRegisters, lastState};
 ghost use Rattle.netlist.specs.Rows.{isRegister};
 ghost use Rattle.netlist.specs.FileFormat.{rowOffset, netlistOf};
 ghost use Rattle.netlist.specs.WellFormed.{FoldableRows};
 ghost use Rattle.blockfile.specs.RowCode.{ifKnown};
+ghost use Rattle.blockfile.specs.BlockRows.{BlockRows};
 ghost use Rattle.blockfile.specs.Ready.{Ready};
-ghost use Rattle.ternary_step.specs.StateMap.{statePlace, valuePlace, nextPlace, codeAt, stateBytes, Packed, registersBefore, Coded, literalIn, RowToEvaluate, rowIn, noCode, AtRow, InBlock, BlockStop, Evaluated, Started, shownCodes, NextReady, Searched};
-ghost use Rattle.ternary_step.specs.WorkMap.{knownPlace};
+ghost use Rattle.fold_memory.specs.WorkMap.{valueOffset, nextOffset, stateBytes, stateOffset};
+ghost use Rattle.ternary_step.specs.StateMap.{codeAt, Packed, registersBefore, Coded, literalIn, RowToEvaluate, rowIn, noCode, AtRow, Evaluated, Started, shownCodes, NextReady, Searched};
 use blockfile::BLOCK_BYTES;
 use blockfile::BLOCK_ROWS;
 use blockfile::FIRST_ROW;
 use blockfile::ROW_BYTES;
-
-// The lent memory: the states, the rows' values, and the registers' next-value literals, where later stands what is known of the rows.
-pub const HISTORY: usize = 16384;
-
-pub const VALUES: usize = 32768;
-
-const NEXTS: usize = 33840;
+use fold_memory::NEXTS;
+use fold_memory::STATES;
+use fold_memory::VALUES;
 
 // A byte that is no code: the answer for a row of an unknown kind, which no accepted file has.
 const NO_CODE: u8 = 3;
 
-// The byte at which state t starts: 64 for each state before it, and before state 256 the rows' values.
-pub fn state_place(t: usize) -> usize
-    requires { ⌜ t ≤ lastState ⌝ }
-    ensures { λ r. ⌜ r ≡ statePlace t ⌝ }
-{
-    HISTORY + 64 * t + t / 256 * 1008
-}
-
 // Register j of the state that starts at `base`.
 pub fn register_code(work: &[u8], base: usize, j: usize) -> u8
-    requires { ⌜ (base ≤ statePlace lastState) × ((j < mostOriginalRegisters) × (foldWorkBytes ≤ length (now work))) ⌝ }
+    requires { ⌜ (j < mostOriginalRegisters) × (base + stateBytes ≤ length (now work)) ⌝ }
     ensures { λ r. ⌜ (r ≡ codeAt (now (work .entry)) base j) × (r < 4) ⌝ }
 {
-    let place = base + j / 4;
+    let offset = base + j / 4;
     let shift = j % 4 * 2;
-    (work[place] >> shift) % 4
+    (work[offset] >> shift) % 4
 }
 
 // ---- a row's value
@@ -57,8 +46,8 @@ pub fn literal_value(work: &[u8], literal: usize) -> u8
     requires { ⌜ (literal / 2 < mostOriginalRows) × Coded (now work) ⌝ }
     ensures { λ r. ⌜ (r ≡ codeOf (literalIn (now (work .entry)) literal)) × (r < 3) ⌝ }
 {
-    let place = VALUES + literal / 2;
-    let value = work[place];
+    let offset = VALUES + literal / 2;
+    let value = work[offset];
     let inverted = (literal % 2) as u8;
     ternary::xor_code(inverted, value)
 }
@@ -125,22 +114,22 @@ pub fn count_register(kind: u8, j: usize) -> usize
     j
 }
 
-// Puts the value of the row, which stands at `place`, in step t; answers the number of registers up to it.
+// Puts the value of the row, which stands at `offset`, in step t; answers the number of registers up to it.
 fn evaluate_row(
     file: &[u8],
     rows: usize,
     row: usize,
-    place: usize,
+    offset: usize,
     j: usize,
     work: &mut [u8],
     t: usize,
 ) -> usize
-    requires { ⌜ AtRow (now file) rows row j × (place ≡ rowOffset row) ⌝ }
+    requires { ⌜ AtRow (now file) rows row j × (offset ≡ rowOffset row) ⌝ }
     requires { ⌜ (t < lastState) × Evaluated (netlistOf (now file)) (now work) t row ⌝ }
-    ensures { λ r. ⌜ (r ≡ registersBefore (netlistOf (now (file .entry))) (row + 1)) × (KeptOutside (valuePlace 0) (valuePlace mostOriginalRows) (now (work .entry)) (now (work .exit)) × Evaluated (netlistOf (now (file .entry))) (now (work .exit)) t (row + 1)) ⌝ }
+    ensures { λ r. ⌜ (r ≡ registersBefore (netlistOf (now (file .entry))) (row + 1)) × (KeptOutside (valueOffset 0) (valueOffset mostOriginalRows) (now (work .entry)) (now (work .exit)) × Evaluated (netlistOf (now (file .entry))) (now (work .exit)) t (row + 1)) ⌝ }
 {
-    let fields = blockfile::read_at(file, place);
-    let base = HISTORY + 64 * t;
+    let fields = blockfile::read_at(file, offset);
+    let base = fold_memory::state_offset(t);
     let value = row_value(work, fields, base, j);
     let at = VALUES + row;
     work[at] = value;
@@ -158,97 +147,88 @@ fn evaluate_block(
     work: &mut [u8],
     t: usize,
 ) -> usize
-    requires { ⌜ InBlock (now file) rows start stop first before ⌝ }
+    requires { ⌜ Ready FoldableRows (now file) rows × (BlockRows rows start stop first × (before ≡ registersBefore (netlistOf (now file)) start)) ⌝ }
     requires { ⌜ (t < lastState) × Evaluated (netlistOf (now file)) (now work) t start ⌝ }
-    ensures { λ r. ⌜ (r ≡ registersBefore (netlistOf (now (file .entry))) stop) × (KeptOutside (valuePlace 0) (valuePlace mostOriginalRows) (now (work .entry)) (now (work .exit)) × Evaluated (netlistOf (now (file .entry))) (now (work .exit)) t stop) ⌝ }
+    ensures { λ r. ⌜ (r ≡ registersBefore (netlistOf (now (file .entry))) stop) × (KeptOutside (valueOffset 0) (valueOffset mostOriginalRows) (now (work .entry)) (now (work .exit)) × Evaluated (netlistOf (now (file .entry))) (now (work .exit)) t stop) ⌝ }
 {
     let mut i = start;
-    let mut place = first;
+    let mut offset = first;
     let mut j = before;
     'rows: while i < stop {
-        j = evaluate_row(file, rows, i, place, j, work, t);
+        j = evaluate_row(file, rows, i, offset, j, work, t);
         i += 1;
-        place += ROW_BYTES;
+        offset += ROW_BYTES;
     }
     j
 }
 
-// The row after the last one of the block that starts with the row `start`.
-fn block_stop(start: usize, rows: usize) -> usize
-    requires { ⌜ (start < rows) × (rows ≤ mostOriginalRows) ⌝ }
-    ensures { λ r. ⌜ BlockStop start rows r ⌝ }
-{
-    let next = start + BLOCK_ROWS;
-    if next < rows {
-        return next;
-    }
-    rows
-}
-
-// Puts the values of all rows in step t, from state t, block by block.
+// Puts the values of all rows in step t, from state t: those of the whole blocks, then those of the rest.
 fn evaluate(file: &[u8], rows: usize, work: &mut [u8], t: usize)
     requires { ⌜ Ready FoldableRows (now file) rows ⌝ }
     requires { ⌜ (t < lastState) × Evaluated (netlistOf (now file)) (now work) t 0 ⌝ }
-    ensures { λ _. ⌜ KeptOutside (valuePlace 0) (valuePlace mostOriginalRows) (now (work .entry)) (now (work .exit)) × Evaluated (netlistOf (now (file .entry))) (now (work .exit)) t rows ⌝ }
+    ensures { λ _. ⌜ KeptOutside (valueOffset 0) (valueOffset mostOriginalRows) (now (work .entry)) (now (work .exit)) × Evaluated (netlistOf (now (file .entry))) (now (work .exit)) t rows ⌝ }
 {
+    let rest = rows % BLOCK_ROWS;
+    let whole = rows - rest;
     let mut start = 0;
     let mut first = FIRST_ROW;
     let mut j = 0;
-    'each_block: while start < rows {
-        let stop = block_stop(start, rows);
+    'each_block: while start < whole {
+        let stop = start + BLOCK_ROWS;
         j = evaluate_block(file, rows, start, stop, first, j, work, t);
         start = stop;
         first += BLOCK_BYTES;
     }
+    evaluate_block(file, rows, start, rows, first, j, work, t);
 }
 
 // ---- the first state, and the registers' next-value literals
 
 // Puts a code in as register j of the state that starts at `base`, behind the registers before it.
 fn put_code(work: &mut [u8], base: usize, j: usize, code: u8)
-    requires { ⌜ (base ≤ statePlace lastState) × ((j < mostOriginalRegisters) × (foldWorkBytes ≤ length (now work))) ⌝ }
+    requires { ⌜ (j < mostOriginalRegisters) × (base + stateBytes ≤ length (now work)) ⌝ }
     requires { ⌜ (code < 3) × (byteAt (now work) (base + j / 4) < 2 ^ (j % 4 * 2)) ⌝ }
     ensures { λ _. ⌜ now (work .exit) ≡ set (now (work .entry)) (base + j / 4) (byteAt (now (work .entry)) (base + j / 4) + code * 2 ^ (j % 4 * 2)) ⌝ }
 {
-    let place = base + j / 4;
+    let offset = base + j / 4;
     let shift = j % 4 * 2;
-    let before = work[place];
-    work[place] = before + (code << shift);
+    let before = work[offset];
+    work[offset] = before + (code << shift);
 }
 
 // Puts register j's next-value literal in the list.
 fn list_next(work: &mut [u8], j: usize, next: usize)
-    requires { ⌜ (j < mostOriginalRegisters) × ((next < 2 ^ 16) × (foldWorkBytes ≤ length (now work))) ⌝ }
-    ensures { λ _. ⌜ now (work .exit) ≡ sets (now (work .entry)) (nextPlace j) (u16Bytes next) ⌝ }
+    requires { ⌜ (j < mostOriginalRegisters) × ((next < 2 ^ 16) × (stateOffset 0 ≤ length (now work))) ⌝ }
+    ensures { λ _. ⌜ now (work .exit) ≡ sets (now (work .entry)) (nextOffset j) (u16Bytes next) ⌝ }
 {
-    let place = NEXTS + 2 * j;
+    let offset = NEXTS + 2 * j;
     let literal = next as u32;
-    memory::write_u16(work, place, literal);
+    memory::write_u16(work, offset, literal);
 }
 
 // Puts the row in, if it is a register, as register j of state 0, and lists its next-value literal; answers the number of registers up to it.
 fn start_row(file: &[u8], rows: usize, row: usize, j: usize, work: &mut [u8]) -> usize
     requires { ⌜ AtRow (now file) rows row j ⌝ }
     requires { ⌜ Started (netlistOf (now file)) (now work) row ⌝ }
-    ensures { λ r. ⌜ (r ≡ registersBefore (netlistOf (now (file .entry))) (row + 1)) × (KeptOutside (statePlace 0) (nextPlace mostOriginalRegisters) (now (work .entry)) (now (work .exit)) × Started (netlistOf (now (file .entry))) (now (work .exit)) (row + 1)) ⌝ }
+    ensures { λ r. ⌜ (r ≡ registersBefore (netlistOf (now (file .entry))) (row + 1)) × (KeptOutside (nextOffset 0) (stateOffset 1) (now (work .entry)) (now (work .exit)) × Started (netlistOf (now (file .entry))) (now (work .exit)) (row + 1)) ⌝ }
 {
     let fields = blockfile::read_row(file, row);
     let kind = fields.kind;
     let reset = fields.reset;
     let next = fields.a;
     if kind == 2 {
-        put_code(work, HISTORY, j, reset);
+        put_code(work, STATES, j, reset);
         list_next(work, j, next);
         return j + 1;
     }
     j
 }
 
-// Puts state 0 in its place and lists the registers' next-value literals; answers the number of registers.
+// Puts state 0 and lists the registers' next-value literals; answers the number of registers.
 pub fn start(file: &[u8], rows: usize, work: &mut [u8]) -> usize
     requires { ⌜ Ready FoldableRows (now file) rows ⌝ }
     requires { ⌜ Started (netlistOf (now file)) (now work) 0 ⌝ }
-    ensures { λ r. ⌜ (r ≡ countIf isRegister (netlistOf (now (file .entry)))) × (KeptOutside (statePlace 0) (nextPlace mostOriginalRegisters) (now (work .entry)) (now (work .exit)) × Started (netlistOf (now (file .entry))) (now (work .exit)) rows) ⌝ }
+    ensures { λ r. ⌜ (r ≡ countIf isRegister (netlistOf (now (file .entry)))) × (KeptOutside (nextOffset 0) (stateOffset 1) (now (work .entry)) (now (work .exit)) × Started (netlistOf (now (file .entry))) (now (work .exit)) rows) ⌝ }
 {
     let mut i = 0;
     let mut j = 0;
@@ -261,12 +241,12 @@ pub fn start(file: &[u8], rows: usize, work: &mut [u8]) -> usize
 
 // ---- from a state to the next
 
-// Puts state m in its place: what each of the n listed literals shows.
+// Puts state m: what each of the n listed literals shows.
 fn pack_next(work: &mut [u8], n: usize, m: usize)
     requires { ⌜ NextReady (now work) n m ⌝ }
-    ensures { λ _. ⌜ KeptOutside (statePlace m) (statePlace m + stateBytes) (now (work .entry)) (now (work .exit)) × Packed (now (work .exit)) (statePlace m) (shownCodes (now (work .entry)) n) ⌝ }
+    ensures { λ _. ⌜ KeptOutside (stateOffset m) (stateOffset m + stateBytes) (now (work .entry)) (now (work .exit)) × Packed (now (work .exit)) (stateOffset m) (shownCodes (now (work .entry)) n) ⌝ }
 {
-    let base = state_place(m);
+    let base = fold_memory::state_offset(m);
     let mut j = 0;
     'registers: while j < n {
         let at = NEXTS + 2 * j;
@@ -277,11 +257,11 @@ fn pack_next(work: &mut [u8], n: usize, m: usize)
     }
 }
 
-// Puts state m in its place, from state m - 1; there are `registers` registers.
+// Puts state m, from state m - 1; there are `registers` registers.
 pub fn advance(file: &[u8], rows: usize, registers: usize, work: &mut [u8], m: usize)
     requires { ⌜ Ready FoldableRows (now file) rows × (registers ≡ countIf isRegister (netlistOf (now file))) ⌝ }
-    requires { ⌜ (1 ≤ m) × ((m ≤ lastState) × Searched (netlistOf (now file)) (now work) m) ⌝ }
-    ensures { λ _. ⌜ KeptOutside (statePlace 0) (knownPlace 0) (now (work .entry)) (now (work .exit)) × Searched (netlistOf (now (file .entry))) (now (work .exit)) (m + 1) ⌝ }
+    requires { ⌜ (1 ≤ m) × ((m ≤ lastState) × ((stateOffset (m + 1) ≤ length (now work)) × Searched (netlistOf (now file)) (now work) m)) ⌝ }
+    ensures { λ _. ⌜ KeptOutside (valueOffset 0) (stateOffset (m + 1)) (now (work .entry)) (now (work .exit)) × Searched (netlistOf (now (file .entry))) (now (work .exit)) (m + 1) ⌝ }
 {
     let last = m - 1;
     evaluate(file, rows, work, last);

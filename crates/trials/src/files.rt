@@ -43,7 +43,7 @@ pub fn of_file(refusal: FileRefusal) -> Verdict {
 
 fn of_check(answer: Acceptance) -> Verdict {
     match answer {
-        Acceptance::Accepted => said(0, 0),
+        Acceptance::Accepted { rows: _, counts: _ } => said(0, 0),
         Acceptance::Refused(refusal) => of_file(refusal),
     }
 }

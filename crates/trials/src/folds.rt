@@ -5,6 +5,7 @@ use crate::tally::add;
 use crate::tally::hold;
 use fold_core::FoldRefusal;
 use fold_core::Folding;
+use fold_memory::ENTRIES;
 use reference::Folded;
 use reference::Lent;
 use reference::asking::Verdict;
@@ -12,9 +13,6 @@ use text::both;
 use text::bytes::get;
 use text::bytes::same;
 use text::numbers::number_at;
-
-// Where the product packs its clock entries.
-const ENTRIES: usize = 16384;
 
 // What is lent, and what the results hold before.
 pub const RESULT_ROOM: usize = 65600;

@@ -8,7 +8,7 @@ use reference::rows::Row;
 use reference::rows::count_kind;
 use reference::rows::row_at;
 use reference::rows::rows_of;
-use run_core::RunAnswer;
+use run::RunAnswer;
 use text::both;
 use text::bytes::first;
 use text::bytes::get;

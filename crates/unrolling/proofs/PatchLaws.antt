@@ -1,4 +1,4 @@
--- The new registers' next values, row by row: each is read from its row, and its image in the last phase is written in its place.
+-- The new registers' next values, row by row: each is read from its row, and its image in the last phase is written there.
 -- Assumes nothing.
 use Prim.Native.Nat.{ℕ, zero, suc, _+_, _<_, _≤_, _/_}
 use mathlib.Core.Path.{_≡_, refl, sym, ap, _∙_, subst}
@@ -18,13 +18,13 @@ use Rattle.netlist.specs.FileFormat.{rowOffset}
 use Rattle.netlist.specs.WellFormed.{NextBelow}
 use Rattle.abstraction.specs.Unrolling.{imageLiteral, patchNext}
 use Rattle.blockfile.proofs.StandLaws.{row-room, row-next}
-use Rattle.unrolling.specs.UnrollMap.{imagesIn, RowStands, NextFits, NextsPatched}
+use Rattle.blockfile.proofs.AppendLaws.{kind-byte}
+use Rattle.blockfile.specs.Appending.{RowStands}
+use Rattle.row_images.specs.ImageMap.{imagesIn}
+use Rattle.unrolling.specs.UnrollMap.{NextFits, NextsPatched}
 use Rattle.unrolling.proofs.UnrollFacts.{as-register}
 
--- ---- what a row's bytes say
-
-kind-byte : (r : Row) (j : ℕ) (f : List ℕ) → RowStands r j f → byteAt f (rowOffset j) ≡ kindOf r
-kind-byte r j f s = let e : rowOffset j + 0 ≡ rowOffset j = omega arith in rw e at (s 0 (omega arith))
+-- ---- the next value in a row's bytes
 
 -- A register's next value is read.
 next-read : (s a l n j : ℕ) (f : List ℕ) → n ≤ mostOriginalRows → a / 2 < n → RowStands (register s a l) j f → u16At f (rowOffset j + 2) ≡ a
@@ -64,12 +64,12 @@ next-stands s a l v j f h t (suc (suc (suc zero))) b =
     ap (byteAt (sets f (rowOffset j + 2) (u16Bytes v))) e ∙ sets-at (u16Bytes v) f (rowOffset j + 2) 1 (omega arith) (omega arith)
 next-stands s a l v j f h t (suc (suc (suc (suc d)))) b = next-kept v j f .after (rowOffset j + suc (suc (suc (suc d)))) (omega arith) ∙ t (suc (suc (suc (suc d)))) b
 
-pub next-in-range : (j place next : ℕ) (result : List ℕ) → place ≡ rowOffset j → byteAt result place ≡ 2 → next ≡ u16At result (place + 2) → NextFits j result → next / 2 < mostOriginalRows
-next-in-range j place next result e h f g = rw (f, e) (g (sym (ap (byteAt result) e) ∙ h))
+pub next-in-range : (j offset next : ℕ) (result : List ℕ) → offset ≡ rowOffset j → byteAt result offset ≡ 2 → next ≡ u16At result (offset + 2) → NextFits j result → next / 2 < mostOriginalRows
+next-in-range j offset next result e h f g = rw (f, e) (g (sym (ap (byteAt result) e) ∙ h))
 
-module _ (work : List ℕ) (k j place : ℕ) (result : List ℕ) (e : place ≡ rowOffset j) where
-  module _ (h : byteAt result place ≡ 2) (next image : ℕ) (result′ : List ℕ) (f : next ≡ u16At result (place + 2)) (g : (n : ℕ) → next / 2 < n → image ≡ imageLiteral (imagesIn work k n) next)
-      (i : result′ ≡ sets result (place + 2) (u16Bytes image)) (jb : j < mostFoldedRows) (room : foldResultBytes ≤ length result) where
+module _ (work : List ℕ) (k j offset : ℕ) (result : List ℕ) (e : offset ≡ rowOffset j) where
+  module _ (h : byteAt result offset ≡ 2) (next image : ℕ) (result′ : List ℕ) (f : next ≡ u16At result (offset + 2)) (g : (n : ℕ) → next / 2 < n → image ≡ imageLiteral (imagesIn work k n) next)
+      (i : result′ ≡ sets result (offset + 2) (u16Bytes image)) (jb : j < mostFoldedRows) (room : foldResultBytes ≤ length result) where
     written : result′ ≡ sets result (rowOffset j + 2) (u16Bytes image)
     written = i ∙ ap (λ (z : ℕ). sets result (z + 2) (u16Bytes image)) e
 
@@ -91,7 +91,7 @@ module _ (work : List ℕ) (k j place : ℕ) (result : List ℕ) (e : place ≡ 
           kept = rw written (kept-sets (rowOffset j) (rowOffset (suc j)) (u16Bytes image) result (rowOffset j + 2) (omega arith) (omega arith));
         }
 
-  pub patch-none : (byteAt result place ≡ 2 → ⊥) → NextsPatched work k j (suc j) result result
+  pub patch-none : (byteAt result offset ≡ 2 → ⊥) → NextsPatched work k j (suc j) result result
   patch-none h = record {
     patched = λ n few x r a b nb s.
         let q : x ≡ j = omega arith in
@@ -107,8 +107,9 @@ patch-start work k result = record { patched = λ n few x r a b nb s. absurd (om
 
 module _ (work : List ℕ) (k j : ℕ) (result₀ result : List ℕ) (P : NextsPatched work k 0 j result₀ result) where
   -- Row j is still as it was.
-  pub patch-fits : NextFits j result₀ → NextFits j result
-  patch-fits f =
+  pub patch-fits : (n : ℕ) → ((i : ℕ) → i < n → NextFits i result₀) → j < n → NextFits j result
+  patch-fits n g h =
+      let f = g j h in
       let a = P .kept .after (rowOffset j) (omega arith) in
       let b = P .kept .after (rowOffset j + 2) (omega arith) in
       let c = P .kept .after (rowOffset j + 2 + 1) (omega arith) in
@@ -126,3 +127,6 @@ module _ (work : List ℕ) (k j : ℕ) (result₀ result : List ℕ) (P : NextsP
             subst (λ (z : ℕ). RowStands (patchNext (imagesIn work k n) r) z result′) (sym q) (Q .patched n few j r (omega arith) (omega arith) nb (λ d h. P .kept .after (rowOffset j + d) (omega arith) ∙ t d h)));
         kept = kept-join (rowOffset 0) (rowOffset (suc j)) result₀ result result′ (P .kept) (Q .kept) (omega arith) (omega arith) (omega arith) (omega arith);
       }
+
+  pub patch-done : (n : ℕ) → j ≤ n → n ≤ j → NextsPatched work k 0 n result₀ result
+  patch-done n a b = let q : j ≡ n = omega arith in subst (λ (z : ℕ). NextsPatched work k 0 z result₀ result) q P

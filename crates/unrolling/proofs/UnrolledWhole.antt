@@ -17,7 +17,10 @@ use Rattle.netlist.specs.WellFormed.{FoldableRows}
 use Rattle.abstraction.specs.Unrolling.{patchNext, phaseOutput, unrollPhase, unrollPhases, phaseOutputs, unrolledNetlist}
 use Rattle.blockfile.specs.RowsStand.{RowsStand}
 use Rattle.blockfile.specs.Ready.{Ready}
-use Rattle.unrolling.specs.UnrollMap.{imagesIn, UnderWay, RowStands, NextFits, NextsPatched, Appended, outputsIn}
+use Rattle.blockfile.specs.Appending.{RowStands, Appended}
+use Rattle.fold_memory.specs.WorkMap.{knownIn}
+use Rattle.row_images.specs.ImageMap.{imagesIn}
+use Rattle.unrolling.specs.UnrollMap.{UnderWay, NextFits, NextsPatched, outputsIn}
 use Rattle.unrolling.proofs.UnrollFacts.{netlist-clock, netlist-few, new-registers}
 use Rattle.unrolling.proofs.PatchLaws.{next-fits, patch-other}
 
@@ -33,11 +36,11 @@ module _ (clock : ℕ → ℕ → Ternary) (f : List ℕ) (N : ℕ) (result work
 
   stands : RowsStand made result
   unfolding unrollPhase
-  stands = U .placed .stands
+  stands = U .stored .stands
 
   counted : m ≡ length made
   unfolding unrollPhase
-  counted = U .placed .counted
+  counted = U .stored .counted
 
   -- The last phase's images.
   images-last : imagesIn work (N - 1) (length rows) ≡ images
@@ -60,13 +63,16 @@ module _ (clock : ℕ → ℕ → Ternary) (f : List ℕ) (N : ℕ) (result work
   pub outputs-fit : m + length (joinBelow N (outputsIn rows work)) ≤ mostFoldedRows
   outputs-fit = omega (arith, whole-length, netlist-few clock rows (O .rows) N b)
 
-  pub made-fit : m ≤ mostFoldedRows
-  made-fit = let h = outputs-fit in omega arith
+  pub patched-few : (n x : ℕ) → n ≡ min m x → n ≤ mostFoldedRows
+  patched-few n x e = let h = outputs-fit in omega arith
 
-  pub nexts-fit : (j : ℕ) → j < m → NextFits j result
+  nexts-fit : (j : ℕ) → j < m → NextFits j result
   nexts-fit j h =
       let l : j < length made = omega (arith, counted) in
       next-fits (length rows) j (rowAt made j) result (O .rows .small) (new-registers rows (O .rows) clock N .nexts j l) (λ d k. stands j d l k)
+
+  pub patched-fit : (n x : ℕ) → n ≡ min m x → (j : ℕ) → j < n → NextFits j result
+  patched-fit n x e j h = nexts-fit j (omega arith)
 
   module _ (n : ℕ) (e : n ≡ min m (length rows)) (result′ : List ℕ) (P : NextsPatched work (N - 1) 0 n result result′) where
     patched : (j : ℕ) → j < length made → RowStands (patchNext images (rowAt made j)) j result′
@@ -90,8 +96,17 @@ module _ (clock : ℕ → ℕ → Ternary) (f : List ℕ) (N : ℕ) (result work
       subst (λ (z : List Row). RowsStand z result″) (sym whole-is) (A .stands (map (patchNext images) made) (omega (arith, counted, length-map made (patchNext images))) patched-stand),
     )
 
-    -- Every clock that agrees gives the same netlist.
-    pub unrolled-stands : (result″ : List ℕ) (r : ℕ) → Appended (joinBelow N (outputsIn rows work)) result′ result″ m r → (clock′ : ℕ → ℕ → Ternary) → ((i k : ℕ) → i < length rows → k < N → clock i k ≡ clock′ i k)
-        → (r ≡ length (unrolledNetlist clock′ rows N)) × RowsStand (unrolledNetlist clock′ rows N) result″
-    unrolled-stands result″ r A clock′ g =
-        subst (λ (z : List Row). (r ≡ length z) × RowsStand z result″) (netlist-clock clock clock′ rows N g) (whole-stands result″ r A)
+-- Every clock that agrees with what is known gives the same netlist.
+module _ (f : List ℕ) (N rows made patched r : ℕ) (work₀ result₁ work₁ result₂ result₃ : List ℕ) (O : Ready FoldableRows f (length (netlistOf f))) (q : rows ≡ length (netlistOf f)) (a : 1 ≤ N) (b : N ≤ mostPhases)
+    (U : UnderWay (knownIn work₀) (netlistOf f) N 0 result₁ work₁ made) (e : patched ≡ min made rows) (P : NextsPatched work₁ (N - 1) 0 patched result₁ result₂)
+    (A : Appended (joinBelow N (outputsIn (netlistOf f) work₁)) result₂ result₃ made r) (clock : ℕ → ℕ → Ternary) (agree : (i k : ℕ) → i < rows → k < N → knownIn work₀ i k ≡ clock i k) where
+  whole : (r ≡ length (unrolledNetlist clock (netlistOf f) N)) × RowsStand (unrolledNetlist clock (netlistOf f) N) result₃
+  whole =
+      subst (λ (z : List Row). (r ≡ length z) × RowsStand z result₃) (netlist-clock (knownIn work₀) clock (netlistOf f) N (λ i k h. agree i k (omega arith)))
+      (whole-stands (knownIn work₀) f N result₁ work₁ made O a b U patched (e ∙ ap (min made) q) result₂ P result₃ r A)
+
+  pub unroll-count : r ≡ length (unrolledNetlist clock (netlistOf f) N)
+  unroll-count = whole .0
+
+  pub unroll-stands : RowsStand (unrolledNetlist clock (netlistOf f) N) result₃
+  unroll-stands = whole .1

@@ -3,24 +3,25 @@
 -- Assumes nothing.
 use Prim.Native.Nat.{ℕ, suc, _+_, _*_, _<_, _≤_, _/_, _^_}
 use mathlib.Core.Path.{_≡_}
-use mathlib.Core.List.{List, _++_}
+use mathlib.Core.List.{List}
 use lib.ListN.{length, getD}
 use lib.Seq.{sets}
-use Rattle.memory.specs.Lists.{tabulate, joinBelow}
+use Rattle.memory.specs.Lists.{joinBelow}
 use Rattle.memory.specs.Fields.{byteAt, u16At, u16Bytes}
 use Rattle.memory.specs.Frames.{KeptOutside}
 use Rattle.ternary.specs.Ternary.{Ternary}
 use Rattle.netlist.specs.Limits.{mostPhases, mostOriginalRows, foldResultBytes, foldWorkBytes}
-use Rattle.netlist.specs.Rows.{Row, RowFields, rowAt}
-use Rattle.netlist.specs.FileFormat.{rowOffset, netlistOf, fieldBytes, rowBytes}
-use Rattle.netlist.specs.WellFormed.{NextBelow, FoldableRows}
+use Rattle.netlist.specs.Rows.{Row, rowAt}
+use Rattle.netlist.specs.FileFormat.{rowOffset, fieldBytes}
+use Rattle.netlist.specs.WellFormed.{NextBelow}
 use Rattle.abstraction.specs.GateMaking.{Unrolling}
 use Rattle.abstraction.specs.Unrolling.{patchNext, phaseOutput, unrollPhase, unrollPhases}
 use Rattle.blockfile.specs.RowsStand.{RowsStand}
-use Rattle.blockfile.specs.Ready.{Ready}
-use Rattle.gates.specs.declared.MadeRow.{MadeRow}
+use Rattle.blockfile.specs.Appending.{RowStands}
 use Rattle.gates.specs.declared.MadeImage.{MadeImage}
 use Rattle.gates.specs.declared.MadeImage.the-variants.{Existing, NewRow}
+use Rattle.gates.specs.ImageCode.{madeFields}
+use Rattle.row_images.specs.ImageMap.{imageOffset, imagesIn}
 
 -- The lent memory is large enough.
 pub record Room (result work : List ℕ) : Type 0 where
@@ -29,25 +30,11 @@ pub record Room (result work : List ℕ) : Type 0 where
 
 -- ---- work
 
--- The image literal of row i in phase k has two bytes from here on; behind all images nothing is written.
-abbrev pub imagePlace : ℕ → ℕ → ℕ
-imagePlace k i = 2 * mostOriginalRows * k + 2 * i
-
+-- Behind all images nothing is written.
 abbrev pub imagesEnd : ℕ
-imagesEnd = imagePlace mostPhases 0
+imagesEnd = imageOffset mostPhases 0
 
--- The images of the first n rows in phase k.
-unfoldable pub imagesIn : List ℕ → ℕ → ℕ → List ℕ
-imagesIn w k n = tabulate n (λ i. u16At w (imagePlace k i))
-
--- A literal that names no row: the row would be the 32,768th, and a file has 8,064 at most.
-abbrev pub noLiteral : ℕ
-noLiteral = 65535
-
--- ---- an image is placed
-
-abbrev pub fieldsMade : MadeRow → RowFields
-fieldsMade x = record { kind = x .kind; reset = x .reset; a = x .a; b = x .b; c = x .c }
+-- ---- an image is stored
 
 -- With m rows made: the image's literal, how many rows it adds, and the bytes with its row.
 abbrev pub literalMade : ℕ → MadeImage → ℕ
@@ -60,18 +47,18 @@ rowsMade (NewRow x b) = 1
 
 abbrev pub rowWritten : ℕ → MadeImage → List ℕ → List ℕ
 rowWritten m (Existing l) result = result
-rowWritten m (NewRow x b) result = sets result (rowOffset m) (fieldBytes (fieldsMade x))
+rowWritten m (NewRow x b) result = sets result (rowOffset m) (fieldBytes (madeFields x))
 
-pub record ImagePlaced (image : MadeImage) (m place : ℕ) (result work result′ work′ : List ℕ) (r : ℕ) : Type 0 where
+pub record ImageStored (image : MadeImage) (m offset : ℕ) (result work result′ work′ : List ℕ) (r : ℕ) : Type 0 where
   pub rows : result′ ≡ rowWritten m image result
-  pub literal : work′ ≡ sets work place (u16Bytes (literalMade m image))
+  pub literal : work′ ≡ sets work offset (u16Bytes (literalMade m image))
   pub small : literalMade m image < 2 ^ 16
   pub count : r ≡ m + rowsMade image
 
 -- ---- the phases
 
 -- The m rows made stand in `result`, and in `work` the images of the first i rows in phase k.
-pub record Placed (q : Unrolling) (k i : ℕ) (result work : List ℕ) (m : ℕ) : Type 0 where
+pub record Stored (q : Unrolling) (k i : ℕ) (result work : List ℕ) (m : ℕ) : Type 0 where
   pub stands : RowsStand (q .made) result
   pub counted : m ≡ length (q .made)
   pub images : imagesIn work k i ≡ q .images
@@ -82,14 +69,10 @@ module _ (clock : ℕ → ℕ → Ternary) (rows : List Row) where
   unrolledTo k i = let q = unrollPhases clock rows k in unrollPhase clock rows k (q .made) (q .images) i
 
   pub record UnderWay (k i : ℕ) (result work : List ℕ) (m : ℕ) : Type 0 where
-    pub placed : Placed (unrolledTo k i) k i result work m
+    pub stored : Stored (unrolledTo k i) k i result work m
     pub earlier : (j : ℕ) → j < k → imagesIn work j (length rows) ≡ unrollPhases clock rows (suc j) .images
 
 -- ---- the new registers' next values
-
--- The eight bytes of r stand at row j's place.
-abbrev pub RowStands : Row → ℕ → List ℕ → Type 0
-RowStands r j f = (d : ℕ) → d < 8 → byteAt f (rowOffset j + d) ≡ byteAt (rowBytes r) d
 
 -- Row j, if it is a register, has a next value that names an original row.
 abbrev pub NextFits : ℕ → List ℕ → Type 0
@@ -101,11 +84,6 @@ pub record NextsPatched (work : List ℕ) (k i j : ℕ) (result result′ : List
   pub kept : KeptOutside (rowOffset i) (rowOffset j) result result′
 
 -- ---- the outputs
-
--- These rows are appended to the m rows in `result`.
-pub record Appended (new : List Row) (result result′ : List ℕ) (m r : ℕ) : Type 0 where
-  pub counted : r ≡ m + length new
-  pub stands : (made : List Row) → m ≡ length made → RowsStand made result → RowsStand (made ++ new) result′
 
 -- The output of phase k for row i, and those for all rows, by the images in `work`.
 abbrev pub outputAt : List Row → List ℕ → ℕ → ℕ → List Row

@@ -5,7 +5,7 @@ use mathlib.Core.Path.{_≡_}
 use native.Mathlib.Omega.{arith}
 use borrow.Author.Needs.{needs}
 use lib.ListN.{length-take, length-drop}
-use Rattle.accept.specs.Refusals.{blockAsked}
+use Rattle.accept.specs.Parts.{blockAsked}
 use Rattle.accept.proofs.RefusalLaws.{blocks-end, blocks-stop, blocks-again}
 use Rattle.accept.proofs.check_blocks.Statement.{statement}
 use Rattle.accept.proofs.check_blocks.Tie as tie

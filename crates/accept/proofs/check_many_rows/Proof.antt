@@ -3,7 +3,7 @@
 use Prim.Native.Nat.{ℕ}
 use mathlib.Core.Bool.{false}
 use lib.ListN.{length-replicate}
-use Rattle.accept.specs.Marks.{markBytes}
+use Rattle.name_marks.specs.Marks.{markBytes}
 use borrow.Author.Needs.{needs}
 use Rattle.accept.proofs.check_many_rows.Statement.{statement}
 use Rattle.accept.proofs.check_many_rows.Tie as tie

@@ -47,7 +47,7 @@ use denote.Triple.Walked.{says, needs, Stays, stay-none, stay-slice, stay-none-s
 use denote.Exit.{yes}
 use denote.Signature.{plain}
 use Rattle.netlist.specs.Limits.{foldClockEntries}
-use Rattle.ternary_step.specs.WorkMap.{entryIn}
+use Rattle.fold_memory.specs.WorkMap.{entryIn}
 use Rattle.clock_list.specs.ClockCode.{clockOf}
 use Rattle.clock_list.specs.declared.Clock.{Clock}
 use Rattle.clock_list.proofs.ListedLaws.{listedTo, listed-none, listed-more, listed-length}

@@ -1,22 +1,15 @@
--- `keep_row` meets its contract.
+-- `keep_row` meets its contract: a row that is marked is moved.
 -- Assumes nothing.
-use native.Mathlib.Omega.{arith}
 use borrow.Author.Needs.{needs}
 use Rattle.compaction.proofs.MoveLaws.{kept-yes, kept-no}
-use Rattle.compaction.proofs.SlotLaws.{mark-yes, mark-no}
 use Rattle.compaction.proofs.keep_row.Statement.{statement}
 use Rattle.compaction.proofs.keep_row.Tie as tie
 
 returns : tie.Need-returns
-returns c =
-    let args = c .before .before .before .before .args in
-    kept-no (args .result .now) (args .slots .now) (args .row) (args .to) (mark-no (args .slots .now) (args .row) (omega (arith, c .before .slot-at .ensures .0)))
+returns c = search kept-no
 
 returns-2 : tie.Need-returns-2
-returns-2 c =
-    let args = c .before .before .before .before .before .before .before .before .args in
-    let move-row = c .before .before .move-row in
-    kept-yes (args .result .now) (move-row .last .0) (args .slots .now) (args .row) (args .to) (mark-yes (args .slots .now) (args .row) (omega (arith, c .before .before .before .before .before .slot-at .ensures .0))) (move-row .ensures)
+returns-2 c = search kept-yes
 
 pub keep-row-spec : {M : Type 1} → statement M
 keep-row-spec =

@@ -1,7 +1,7 @@
 -- `move_rows` meets its contract. The loop's invariant: the marked rows before `row` stand in front, and the others where they stood.
 -- Assumes nothing.
 use Prim.Native.Nat.{_-_, _≤_}
-use mathlib.Core.Path.{_≡_, refl, _∙_}
+use mathlib.Core.Path.{_≡_}
 use native.Mathlib.Omega.{arith}
 use lib.ListN.{length}
 use borrow.Author.Needs.{needs}
@@ -22,11 +22,7 @@ keep-row-requires : tie.Need-keep-row-requires Inv-rows μ-rows
 keep-row-requires c κs = search needs
 
 rows-again : tie.Need-rows-again Inv-rows μ-rows
-rows-again c =
-    let keep-row = c .before .before .keep-row in
-    let rows = c .before .before .before .before .before .rows in
-    let args = c .before .before .before .before .before .before .before .before .args in
-    (omega arith, (keep-row .kept .0 ∙ rows .inv .1 .0, moving-next (args .result .now) (rows .result) (keep-row .last .0) (args .slots .now) (args .rows) (rows .row) (rows .to) (keep-row .result) (omega arith) (omega arith) (omega arith) (rows .inv .1 .1) (keep-row .ensures)))
+rows-again c = (search needs, (search needs, search moving-next))
 
 same-length : tie.Need-same-length Inv-rows μ-rows
 same-length c = search needs

@@ -1,16 +1,12 @@
 -- `number_row` meets its contract.
 -- Assumes nothing.
 use borrow.Author.Needs.{needs}
-use Rattle.compaction.proofs.SlotLaws.{row-numbered}
+use Rattle.compaction.proofs.NumberLaws.{number-next, row-numbered}
 use Rattle.compaction.proofs.number_row.Statement.{statement}
 use Rattle.compaction.proofs.number_row.Tie as tie
 
 returns : tie.Need-returns
-returns c =
-    let args = c .before .before .before .before .before .before .before .args in
-    let set-slot = c .before .before .set-slot in
-    let slot-at = c .before .before .before .before .slot-at in
-    row-numbered (args .slots .now) (set-slot .last .0) (args .row) (args .number) (slot-at .result) (slot-at .ensures) (set-slot .ensures)
+returns c = search (number-next, row-numbered)
 
 pub number-row-spec : {M : Type 1} → statement M
 number-row-spec =

@@ -1,6 +1,6 @@
 -- `make_xor` gives the image of the XOR rule, way by way.
 -- Assumes nothing.
-use Rattle.gates.proofs.RuleWays.{xor-equal, xor-inverses, xor-first-false, xor-second-false, xor-first-true, xor-second-true, xor-new}
+use Rattle.gates.proofs.RuleWays.{xor-equal, xor-complements, xor-first-false, xor-second-false, xor-first-true, xor-second-true, xor-new}
 use borrow.Author.Needs.{needs}
 use Rattle.gates.proofs.make_xor.Statement.{statement}
 use Rattle.gates.proofs.make_xor.Tie as tie
@@ -9,7 +9,7 @@ returns : tie.Need-returns
 returns c = search xor-equal
 
 returns-2 : tie.Need-returns-2
-returns-2 c = search xor-inverses
+returns-2 c = search xor-complements
 
 returns-3 : tie.Need-returns-3
 returns-3 c = search xor-first-false

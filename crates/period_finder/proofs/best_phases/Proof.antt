@@ -1,13 +1,13 @@
 -- `best_phases` meets its contract. The loop's invariant: `best` is the best of 1 to `tried`, and `most` its count.
 -- Assumes nothing.
 use native.Mathlib.Omega.{arith}
-use mathlib.Core.Path.{_≡_, ap, _∙_}
+use mathlib.Core.Path.{_≡_}
 use Prim.Native.Nat.{_-_, _≤_}
 use Rattle.netlist.specs.Limits.{mostPhases}
 use Rattle.lasso.specs.Generators.{usedCount, bestPhaseCount}
 use Rattle.period_finder.specs.PeriodStage.{periodBytes}
-use Rattle.period_finder.proofs.CountLaws.{best-start, best-more}
 use borrow.Author.Needs.{needs}
+use Rattle.period_finder.proofs.CountLaws.{best-start, best-next, most-next, best-all}
 use Rattle.period_finder.proofs.best_phases.Statement.{statement}
 use Rattle.period_finder.proofs.best_phases.Tie as tie
 
@@ -27,10 +27,10 @@ count-used-requires-2 : tie.Need-count-used-requires-2 Inv-counts μ-counts
 count-used-requires-2 c κs = search needs
 
 counts-again : tie.Need-counts-again Inv-counts μ-counts
-counts-again c = ((omega arith, omega arith), best-more (periodBytes (c .before .before .before .before .before .before .before .args .work .now) (c .before .before .before .before .before .before .before .args .rows)) (c .before .before .before .before .counts .tried) (c .before .before .before .before .counts .best) (c .before .before .before .before .counts .most) (c .before .before .count-used2 .result) (c .before .choose .result) (c .choose2 .result) (c .before .before .before .before .counts .inv .1 .0) (c .before .before .before .before .counts .inv .1 .1) (c .before .before .count-used2 .ensures) (c .before .choose .ensures) (c .choose2 .ensures))
+counts-again c = search (best-next, most-next, needs)
 
 returns : tie.Need-returns Inv-counts μ-counts
-returns c = let e : (c .before .counts .tried) ≡ mostPhases = omega arith in (c .before .counts .inv .1 .0) ∙ ap (bestPhaseCount (periodBytes (c .before .before .before .before .args .work .now) (c .before .before .before .before .args .rows))) e
+returns c = search best-all
 
 pub best-phases-spec : {M : Type 1} → statement M
 best-phases-spec =

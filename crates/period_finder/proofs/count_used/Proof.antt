@@ -1,15 +1,12 @@
 -- `count_used` meets its contract. The loop's invariant: `used` counts the first i rows, so it is i at most.
 -- Assumes nothing.
 use native.Mathlib.Omega.{arith}
-use mathlib.Core.Path.{_≡_, refl, ap, _∙_}
-use mathlib.Core.Bool.{Bool, cond}
-use Prim.Native.Nat.{ℕ, _-_, _≤_}
-use Rattle.memory.specs.Fields.{byteAt}
-use Rattle.lasso.specs.Generators.{isUsed, usedCount}
-use Rattle.ternary_step.specs.StateMap.{valuePlace}
+use mathlib.Core.Path.{_≡_, refl}
+use Prim.Native.Nat.{_-_, _≤_}
+use Rattle.lasso.specs.Generators.{usedCount}
 use Rattle.period_finder.specs.PeriodStage.{periodBytes}
-use Rattle.period_finder.proofs.CountLaws.{count-more, one-at-most}
 use borrow.Author.Needs.{needs}
+use Rattle.period_finder.proofs.CountLaws.{used-next, used-few, used-fits, used-all}
 use Rattle.period_finder.proofs.count_used.Statement.{statement}
 use Rattle.period_finder.proofs.count_used.Tie as tie
 
@@ -26,13 +23,13 @@ cast-period : tie.Need-cast-period Inv-rows μ-rows
 cast-period c = let h = (c .read-u8 .ensures .1) in omega arith
 
 add-used : tie.Need-add-used Inv-rows μ-rows
-add-used c = let h = one-at-most (c .before .is-used .result) (c .choose .result) (c .choose .ensures) in omega arith
+add-used c = search used-fits
 
 rows-again : tie.Need-rows-again Inv-rows μ-rows
-rows-again c = (omega arith, (let h = one-at-most (c .before .is-used .result) (c .choose .result) (c .choose .ensures) in omega arith, count-more (c .before .before .before .before .before .before .args .n) (λ x. byteAt (c .before .before .before .before .before .before .args .work .now) (valuePlace x)) (c .before .before .before .before .rows .i) (c .before .before .before .before .rows .used) (c .choose .result) (c .before .before .before .before .rows .inv .1 .1) ((c .choose .ensures) ∙ ap (λ (t : Bool). cond t 1 0) ((c .before .is-used .ensures) ∙ ap (isUsed (c .before .before .before .before .before .before .args .n)) (c .before .before .read-u8 .ensures .0)))))
+rows-again c = search (used-few, used-next, needs)
 
 returns : tie.Need-returns Inv-rows μ-rows
-returns c = let e : (c .before .rows .i) ≡ (c .before .before .before .args .rows) = omega arith in (c .before .rows .inv .1 .1) ∙ ap (λ (k : ℕ). usedCount (periodBytes (c .before .before .before .args .work .now) k) (c .before .before .before .args .n)) e
+returns c = search used-all
 
 pub count-used-spec : {M : Type 1} → statement M
 count-used-spec =

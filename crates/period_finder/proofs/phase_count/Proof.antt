@@ -1,10 +1,7 @@
 -- `phase_count` meets its contract.
 -- Assumes nothing.
-use mathlib.Core.Path.{sym}
-use Rattle.lasso.proofs.PhaseCountLaws.{phases-wish}
-use Rattle.period_finder.specs.PeriodStage.{periodBytes}
-use Rattle.period_finder.proofs.CountLaws.{wish-none}
 use borrow.Author.Needs.{needs}
+use Rattle.period_finder.proofs.CountLaws.{wish-none, wish-some}
 use Rattle.period_finder.proofs.phase_count.Statement.{statement}
 use Rattle.period_finder.proofs.phase_count.Tie as tie
 
@@ -12,7 +9,7 @@ returns : tie.Need-returns
 returns c = search wish-none
 
 returns-2 : tie.Need-returns-2
-returns-2 c = sym (phases-wish (c .before .before .args .wish) (periodBytes (c .before .before .args .work .now) (c .before .before .args .rows)) (search needs))
+returns-2 c = search wish-some
 
 pub phase-count-spec : {M : Type 1} → statement M
 phase-count-spec =

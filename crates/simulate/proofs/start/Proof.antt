@@ -1,26 +1,27 @@
--- `start` meets its contract. The loop's invariant: the rows before `row` have their first values from `half` on, no other byte is changed, and `choice` counts the X registers passed. The measure is the number of rows left.
+-- `start` meets its contract. The loop's invariant: the rows before `row` have their first values from `rows` on, no other byte is changed, and `choice` counts the X registers passed. The measure is the number of rows left.
 -- Assumes nothing.
-use Prim.Native.Nat.{_+_, _-_, _≤_}
+use Prim.Native.Nat.{_-_, _≤_}
 use mathlib.Core.Path.{_≡_, refl}
 use mathlib.Core.List.{map}
 use native.Mathlib.Omega.{arith}
-use lib.ListN.{length, take, length-set}
+use lib.ListN.{length, take}
 use lib.Seq.{sets}
 use Rattle.netlist.specs.Rows.{isUnknown}
 use Rattle.netlist.specs.FileFormat.{netlistOf}
 use Rattle.netlist.specs.Simulation.{boolLogic, resetValue}
 use Rattle.netlist.specs.RunLayout.{placeAmong}
-use Rattle.simulate.specs.Values.{bitBytes, resetChoices}
+use Rattle.row_values.specs.Values.{bitBytes}
+use Rattle.simulate.specs.StepValues.{resetChoices}
 use borrow.Author.Needs.{needs}
-use Rattle.simulate.proofs.PassLaws.{row-ready, hold-all, choice-there, choice-next, choice-most, start-more}
+use Rattle.simulate.proofs.PassLaws.{row-ready, choice-there, choice-next, choice-small, start-more, start-all}
 use Rattle.simulate.proofs.start.Statement.{statement}
 use Rattle.simulate.proofs.start.Tie as tie
 
 abbrev Inv-rows : tie.InvT-rows
-Inv-rows file rows choices work₀ half row₀ choice₀ work row choice = (row ≤ rows) × ((choice ≡ placeAmong isUnknown (netlistOf file) row) × ((length work ≡ length work₀) × (work ≡ sets work₀ half (take row (bitBytes (map (resetValue boolLogic (resetChoices (netlistOf file) choices)) (netlistOf file)))))))
+Inv-rows file rows choices work₀ row₀ choice₀ work row choice = (row ≤ rows) × ((choice ≡ placeAmong isUnknown (netlistOf file) row) × ((length work ≡ length work₀) × (work ≡ sets work₀ rows (take row (bitBytes (map (resetValue boolLogic (resetChoices (netlistOf file) choices)) (netlistOf file)))))))
 
 abbrev μ-rows : tie.MeasureT-rows
-μ-rows file rows choices work₀ half row₀ choice₀ work row choice = rows - row
+μ-rows file rows choices work₀ row₀ choice₀ work row choice = rows - row
 
 rows-holds : tie.Need-rows-holds Inv-rows μ-rows
 rows-holds c = (omega arith, (refl, (refl, refl)))
@@ -38,7 +39,7 @@ slice-write-work : tie.Need-slice-write-work Inv-rows μ-rows
 slice-write-work c = search needs
 
 add-choice : tie.Need-add-choice Inv-rows μ-rows
-add-choice c = omega (arith, choice-most (c .before .before .before .before .before .before .before .args .file .now) (c .before .before .before .before .before .before .before .args .rows) (c .before .before .before .before .before .before .before .pre .0 .0) (c .before .before .before .rows .row) (omega arith) (c .before .before .before .rows .choice) (c .before .before .before .rows .inv .1 .0), c .unknown-at .ensures .1)
+add-choice c = search (choice-small, needs)
 
 rows-again : tie.Need-rows-again Inv-rows μ-rows
 rows-again c = search (choice-next, start-more, needs)
@@ -47,7 +48,7 @@ same-length : tie.Need-same-length Inv-rows μ-rows
 same-length c = search needs
 
 returns : tie.Need-returns Inv-rows μ-rows
-returns c = hold-all (c .before .before .before .before .before .args .file .now) (c .before .before .before .before .before .args .rows) (c .before .before .before .before .before .pre .0 .0) (resetValue boolLogic (resetChoices (netlistOf (c .before .before .before .before .before .args .file .now)) (c .before .before .before .before .before .args .choices .now))) refl (c .before .before .before .before .before .args .half) (c .before .before .before .before .before .args .work .now) (c .before .rows .work) (c .before .rows .row) (omega arith) (c .before .rows .inv .1 .1 .1)
+returns c = search start-all
 
 pub start-spec : {M : Type 1} → statement M
 start-spec =

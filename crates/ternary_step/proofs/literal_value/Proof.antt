@@ -1,8 +1,6 @@
 -- `literal_value` meets its contract: the row's value, inverted by XOR with the literal's last bit.
 -- Assumes nothing.
-use Prim.Native.Nat.{_/_}
-use native.Mathlib.Omega.{arith}
-use Rattle.ternary_step.proofs.StateLaws.{literal-by}
+use Rattle.ternary_step.proofs.StateLaws.{literal-by, code-small}
 use borrow.Author.Needs.{needs}
 use Rattle.ternary_step.proofs.literal_value.Statement.{statement}
 use Rattle.ternary_step.proofs.literal_value.Tie as tie
@@ -11,7 +9,7 @@ shared-slice-read-value : tie.Need-shared-slice-read-value
 shared-slice-read-value c = search needs
 
 xor-code-requires : tie.Need-xor-code-requires
-xor-code-requires c κs = (omega arith, (c .before .before .pre .1 .code (c .before .before .args .literal / 2) (c .before .before .pre .0)))
+xor-code-requires c κs = search (code-small, needs)
 
 returns : tie.Need-returns
 returns c = search literal-by

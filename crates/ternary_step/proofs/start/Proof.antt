@@ -1,13 +1,12 @@
 -- `start` meets its contract. The loop's invariant: the registers of the first i rows are put and listed, and there are j.
 -- Assumes nothing.
 use native.Mathlib.Omega.{arith}
-use mathlib.Core.Path.{_≡_, ap, _∙_, subst}
+use mathlib.Core.Path.{_≡_}
 use Prim.Native.Nat.{_-_, _≤_}
 use Rattle.memory.proofs.FrameLaws.{kept-none, kept-join}
 use Rattle.netlist.specs.FileFormat.{netlistOf}
 use Rattle.ternary_step.specs.StateMap.{registersBefore, Started}
-use Rattle.ternary_step.proofs.RegisterLaws.{before-all}
-use Rattle.ternary_step.proofs.StepLaws.{StartKept}
+use Rattle.ternary_step.proofs.StepLaws.{StartKept, count-all, started-all}
 use borrow.Author.Needs.{needs}
 use Rattle.ternary_step.proofs.start.Statement.{statement}
 use Rattle.ternary_step.proofs.start.Tie as tie
@@ -28,7 +27,7 @@ rows-again : tie.Need-rows-again Inv-rows μ-rows
 rows-again c = search (kept-join, needs)
 
 returns : tie.Need-returns Inv-rows μ-rows
-returns c = let e : (c .before .rows .i) ≡ (c .before .before .before .before .args .rows) = omega arith in ((c .before .rows .inv .1 .0) ∙ ap (registersBefore (netlistOf (c .before .before .before .before .args .file .now))) (e ∙ (c .before .before .before .before .pre .0 .file .count)) ∙ before-all (netlistOf (c .before .before .before .before .args .file .now)), ((c .before .rows .inv .1 .1 .0), subst (Started (netlistOf (c .before .before .before .before .args .file .now)) (c .before .rows .work)) e (c .before .rows .inv .1 .1 .1)))
+returns c = search (count-all, started-all, needs)
 
 pub start-spec : {M : Type 1} → statement M
 start-spec =

@@ -2,7 +2,7 @@
 -- Assumes nothing.
 use native.Mathlib.Omega.{arith}
 use Rattle.memory.proofs.FrameLaws.{kept-none}
-use Rattle.ternary_step.proofs.StepLaws.{read-asks, number-small, register-yes, register-no, number-yes, number-no, put-asks, list-asks, started-more, started-other}
+use Rattle.ternary_step.proofs.StepLaws.{read-asks, count-fits, register-yes, register-no, number-yes, number-no, put-asks, list-asks, started-more, started-other}
 use borrow.Author.Needs.{needs}
 use Rattle.ternary_step.proofs.start_row.Statement.{statement}
 use Rattle.ternary_step.proofs.start_row.Tie as tie
@@ -17,7 +17,7 @@ list-next-requires : tie.Need-list-next-requires
 list-next-requires c κs = let small = (c .before .before .before .before .before .before .read-row .ensures .1) in let l = list-asks (c .before .before .before .before .before .before .before .before .before .pre .0) (c .before .before .before .before .before .before .read-row .result) (c .before .before .before .before .before .before .read-row .ensures .0) (register-yes (c .before .before .before .before .before .before .before .before .before .pre .0) (c .before .before .before .before .before .before .read-row .result) (c .before .before .before .before .before .before .read-row .ensures .0) (c .before .before .before .before .before .if1 .taken)) (c .before .before .before .before .before .before .before .before .before .pre .1) (λ x. omega (arith, (c .before .before .before .before .before .before .before .slice-known .given) x)) (c .before .before .before .put-code .ensures) in (l .0, (omega arith, l .1))
 
 add-result : tie.Need-add-result
-add-result c = let h = number-small (c .before .before .before .before .before .before .before .before .before .before .before .before .pre .0) in omega arith
+add-result c = search count-fits
 
 returns : tie.Need-returns
 returns c = (number-yes (c .before .before .before .before .before .before .before .before .before .before .before .before .pre .0) (c .before .before .before .before .before .before .before .before .before .read-row .result) (c .before .before .before .before .before .before .before .before .before .read-row .ensures .0) (c .before .before .before .before .before .before .before .before .if1 .taken), started-more (c .before .before .before .before .before .before .before .before .before .before .before .before .pre .0) (c .before .before .before .before .before .before .before .before .before .read-row .result) (c .before .before .before .before .before .before .before .before .before .read-row .ensures .0) (register-yes (c .before .before .before .before .before .before .before .before .before .before .before .before .pre .0) (c .before .before .before .before .before .before .before .before .before .read-row .result) (c .before .before .before .before .before .before .before .before .before .read-row .ensures .0) (c .before .before .before .before .before .before .before .before .if1 .taken)) (c .before .before .before .before .before .before .before .before .before .before .before .before .pre .1) (λ x. omega (arith, (c .before .before .before .before .before .before .before .before .before .before .slice-known .given) x)) (c .before .before .before .before .before .before .put-code .ensures) (c .before .before .before .before .before .before .before .before .before .read-row .ensures .1 .a-small) (c .before .before .list-next .ensures))

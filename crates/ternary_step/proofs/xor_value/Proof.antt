@@ -1,14 +1,12 @@
 -- `xor_value` meets its contract.
 -- Assumes nothing.
-use Rattle.ternary.specs.Ternary.{xor3}
-use Rattle.ternary_step.specs.StateMap.{literalIn}
-use Rattle.ternary_step.proofs.StateLaws.{gate-of-two}
+use Rattle.ternary_step.proofs.StateLaws.{xor-of}
 use borrow.Author.Needs.{needs}
 use Rattle.ternary_step.proofs.xor_value.Statement.{statement}
 use Rattle.ternary_step.proofs.xor_value.Tie as tie
 
 returns : tie.Need-returns
-returns c = gate-of-two xor3 (literalIn (c .before .before .before .before .args .work .now) (c .before .before .before .before .args .a)) (literalIn (c .before .before .before .before .args .work .now) (c .before .before .before .before .args .b)) (c .before .before .literal-value .result) (c .before .literal-value2 .result) (c .xor-code .result) (c .before .before .literal-value .ensures) (c .before .literal-value2 .ensures) (c .xor-code .ensures)
+returns c = search xor-of
 
 pub xor-value-spec : {M : Type 1} → statement M
 xor-value-spec =

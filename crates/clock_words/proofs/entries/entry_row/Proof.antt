@@ -1,8 +1,7 @@
 -- `entry_row` meets its contract: the label is the register's field b.
 -- Assumes nothing.
-use native.Mathlib.Omega.{arith}
-use Rattle.ternary_step.proofs.StepLaws.{row-small, read-asks, number-small}
-use Rattle.clock_words.proofs.EntryLaws.{entry-row, entry-none, put-asks, entry-some}
+use Rattle.ternary_step.proofs.StepLaws.{row-small, read-asks}
+use Rattle.clock_words.proofs.EntryLaws.{entry-row, entry-fits, none-counted, none-put, entry-few, entry-some}
 use borrow.Author.Needs.{needs}
 use Rattle.clock_words.proofs.entries.entry_row.Statement.{statement}
 use Rattle.clock_words.proofs.entries.entry_row.Tie as tie
@@ -23,7 +22,7 @@ slice-read-word : tie.Need-slice-read-word
 slice-read-word c = search (row-small, entry-row, needs)
 
 returns : tie.Need-returns
-returns c = entry-none (c .before .before .before .before .before .pre) (c .if1 .taken)
+returns c = search (none-counted, none-put)
 
 read-row-requires : tie.Need-read-row-requires
 read-row-requires c κs = search (read-asks, entry-row, needs)
@@ -32,10 +31,10 @@ cast-label : tie.Need-cast-label
 cast-label c = search needs
 
 put-entry-requires : tie.Need-put-entry-requires
-put-entry-requires c κs = put-asks (c .before .before .before .before .before .before .before .before .pre) (c .before .before .before .if1 .left)
+put-entry-requires c κs = search (entry-few, needs)
 
 add-result : tie.Need-add-result
-add-result c = let s = number-small (entry-row (c .before .before .before .before .before .before .before .before .before .before .before .pre)) in let h = (c .before .before .before .before .before .before .before .before .before .before .before .pre .few) in omega arith
+add-result c = search entry-fits
 
 returns-2 : tie.Need-returns-2
 returns-2 c = entry-some (c .before .before .before .before .before .before .before .before .before .before .before .pre) (c .before .before .before .before .before .before .if1 .left) (c .before .before .before .before .before .read-row .result) (c .before .before .before .before .before .read-row .ensures .0) (c .before .before .put-entry .last .0) (c .before .before .put-entry .ensures)

@@ -1,11 +1,10 @@
 -- `put_entries` meets its contract. The loop's invariant: the entries of the first i rows are put.
 -- Assumes nothing.
 use native.Mathlib.Omega.{arith}
-use mathlib.Core.Path.{_≡_, subst}
-use Prim.Native.Nat.{ℕ, _-_, _≤_}
+use Prim.Native.Nat.{_-_, _≤_}
 use Rattle.netlist.specs.FileFormat.{netlistOf}
 use Rattle.clock_words.specs.EntryStage.{EntryPart}
-use Rattle.clock_words.proofs.EntryLaws.{entries-start, entry-asks, entry-more}
+use Rattle.clock_words.proofs.EntryLaws.{entries-start, entries-all, entry-asks, entry-more}
 use borrow.Author.Needs.{needs}
 use Rattle.clock_words.proofs.entries.put_entries.Statement.{statement}
 use Rattle.clock_words.proofs.entries.put_entries.Tie as tie
@@ -26,7 +25,7 @@ rows-again : tie.Need-rows-again Inv-rows μ-rows
 rows-again c = (omega arith, entry-more (c .before .before .before .before .before .before .before .before .pre .0) (omega arith) (c .before .before .before .before .before .before .before .before .pre .1 .0) (c .before .before .before .before .before .before .before .before .pre .1 .1) (c .before .before .before .before .before .rows .inv .1) (λ x. omega (arith, (c .before .before .before .before .before .before .before .shared-slice-known .given) x)) (λ x. omega (arith, (c .before .before .before .before .before .before .slice-known .given) x)) (c .before .before .entry-row .last .1 .1 .1 .0) (c .before .before .entry-row .result) (c .before .before .entry-row .ensures .0) (c .before .before .entry-row .ensures .1))
 
 returns : tie.Need-returns Inv-rows μ-rows
-returns c = let q : (c .before .rows .i) ≡ (c .before .before .before .before .args .rows) = omega arith in subst (λ (k : ℕ). EntryPart (netlistOf (c .before .before .before .before .args .file .now)) (c .before .before .before .before .args .work .now) (c .before .rows .work) k (c .before .rows .e)) q (c .before .rows .inv .1)
+returns c = search entries-all
 
 pub put-entries-spec : {M : Type 1} → statement M
 put-entries-spec =

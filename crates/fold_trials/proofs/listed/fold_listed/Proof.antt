@@ -48,11 +48,11 @@ use Rattle.clock_list.proofs.Clock.Laws as clock-laws
 use Rattle.fold_core.specs.declared.Folding.{Folding}
 use Rattle.fold_core.proofs.Folding as folding
 use Rattle.fold_core.proofs.Folding.Laws as folding-laws
-use Rattle.phasefold.specs.FoldedOutcome.{Folded as FoldDone}
-use Rattle.phasefold.proofs.fold as fold
-use Rattle.phasefold.proofs.fold.Symbol as fold-def
-use Rattle.phasefold.proofs.fold.Symbol.{name as #fold}
-use Rattle.phasefold.proofs.fold.Met as fold-thm
+use Rattle.fold.specs.FoldedOutcome.{Folded as FoldDone}
+use Rattle.fold.proofs.fold as fold
+use Rattle.fold.proofs.fold.Symbol as fold-def
+use Rattle.fold.proofs.fold.Symbol.{name as #fold}
+use Rattle.fold.proofs.fold.Met as fold-thm
 use Rattle.reference.specs.declared.Folded.{Folded}
 use Rattle.reference.proofs.Folded as folded
 use Rattle.reference.proofs.Folded.Laws as folded-laws
@@ -276,5 +276,5 @@ fold-listed-spec 𝓤 H 𝓜 𝓖 𝓡 =
     (tables 𝓤 H 𝓜 𝓡 code.env .C) (tables 𝓤 H 𝓜 𝓡 code.env .Λ) #fold-listed code.function (code.unfolded 𝓤 H 𝓜 𝓡)
     (fold-listed-meets 𝓤 H (𝓖 .A) (givenOf 𝓤 H 𝓜 𝓖) (𝓜 .mem) (𝓡 .run) (tablesOf 𝓤 H 𝓜 (tables 𝓤 H 𝓜 𝓡 code.env))
     (cited 𝓤 H (Fillers 𝓤 H (𝓖 .A) (𝓜 .mem) (𝓡 .run)) 𝓜 𝓡 code.env #fillers fillers-def.routine code.calls-fold-trials·listed·fillers (fillers-thm.met 𝓤 H 𝓜 𝓖 𝓡))
-    (cited 𝓤 H (Fold 𝓤 H (𝓖 .A) (𝓜 .mem) (𝓡 .run)) 𝓜 𝓡 code.env #fold fold-def.routine code.calls-phasefold·fold (fold-thm.met 𝓤 H 𝓜 𝓖 𝓡))
+    (cited 𝓤 H (Fold 𝓤 H (𝓖 .A) (𝓜 .mem) (𝓡 .run)) 𝓜 𝓡 code.env #fold fold-def.routine code.calls-fold·fold (fold-thm.met 𝓤 H 𝓜 𝓖 𝓡))
     (cited 𝓤 H (ToldBy 𝓤 H (𝓖 .A) (𝓜 .mem) (𝓡 .run)) 𝓜 𝓡 code.env #told told-def.routine code.calls-fold-trials·listed·told (told-thm.met 𝓤 H 𝓜 𝓖 𝓡)))

@@ -1,0 +1,3 @@
+-- Laws of the block check and of the writer.
+pub mod BlockLaws
+pub mod WriterLaws

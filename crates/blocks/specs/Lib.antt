@@ -1,0 +1,2 @@
+-- The numbers of the block check's answers.
+pub mod BlockCode

@@ -1,0 +1,26 @@
+-- The answers that C callers get, as numbers: those of the scope paper, "Questions, in order" and "Operations and lent memory".
+-- Interface: refusalNumbers, acceptedCounts, refusedCounts, foldedNumbers.
+-- Assumes nothing.
+use Rattle.questions.specs.Questions.{Refusal, Counts}
+use Rattle.fold_core.specs.FoldAnswers.{foldingRefusal, numbersIn}
+use Rattle.fold_core.specs.declared.Folding.{Folding}
+use Rattle.c_answers.specs.declared.PfRefusal.{PfRefusal}
+use Rattle.c_answers.specs.declared.PfCounts.{PfCounts}
+use Rattle.c_answers.specs.declared.PfFolded.{PfFolded}
+
+abbrev pub refusalNumbers : Refusal → PfRefusal
+refusalNumbers q = record { number = q .number; place = q .place }
+
+-- The counts of an accepted file; the refusal and zeros of any other.
+abbrev pub acceptedCounts : Counts → PfCounts
+acceptedCounts c = record { number = 0; place = 0; nodes = c .nodes; inputs = c .inputs; registers = c .registers; unknown = c .unknown; outputs = c .outputs }
+
+abbrev pub refusedCounts : Refusal → PfCounts
+refusedCounts q = record { number = q .number; place = q .place; nodes = 0; inputs = 0; registers = 0; unknown = 0; outputs = 0 }
+
+-- The refusal's number and place, and the fold's numbers.
+abbrev pub foldedNumbers : Folding → PfFolded
+foldedNumbers a =
+    let q = foldingRefusal a in
+    let n = numbersIn a in
+    record { number = q .number; place = q .place; stem = n .stem; cycle = n .cycle; phases = n .phases; used = n .used; before = n .before; after = n .after }

@@ -1,0 +1,2 @@
+-- The answers' numbers.
+pub mod AnswerNumbers

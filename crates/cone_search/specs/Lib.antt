@@ -1,0 +1,2 @@
+-- The slots of the search: marks, and rows found.
+pub mod FoundRows

@@ -1,0 +1,2 @@
+-- Laws of Count's outcome.
+pub mod CountedLaws

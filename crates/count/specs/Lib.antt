@@ -1,0 +1,2 @@
+-- What Count promises.
+pub mod CountOutcome

@@ -1,0 +1,2 @@
+-- Laws of Fold's outcome.
+pub mod FoldedLaws

@@ -1,0 +1,2 @@
+-- What Fold promises.
+pub mod FoldedOutcome

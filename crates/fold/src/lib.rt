@@ -1,0 +1,22 @@
+// Fold: the public operation, with the caller's clock list.
+ghost use Rattle.fold.specs.FoldedOutcome.{Folded};
+use clock_list::Clock;
+use fold_core::Folding;
+
+// The fold, its clock entries in the list and its file in the result; work is cleared.
+pub fn fold(
+    file: &[u8],
+    wish: u32,
+    result: &mut [u8],
+    work: &mut [u8],
+    clocks: &mut [Clock],
+) -> Folding
+    ensures { λ r. ⌜ Folded (now (file .entry)) wish (now (result .entry)) (now (result .exit)) (now (work .entry)) (now (work .exit)) (now (clocks .entry)) (now (clocks .exit)) r ⌝ }
+{
+    let count = clocks.len();
+    let answer = fold_core::fold_core(file, wish, result, work, count);
+    let used = fold_core::used_of(answer);
+    clock_list::set_clocks(clocks, work, used);
+    memory::clear(work);
+    answer
+}

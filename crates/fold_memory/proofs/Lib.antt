@@ -1,0 +1,2 @@
+-- The map is right.
+pub mod MapLaws

@@ -1,0 +1,2 @@
+-- The map of Fold's work memory.
+pub mod WorkMap

@@ -1,0 +1,2 @@
+-- Laws of questions 1 to 15.
+pub mod EarlyLaws

@@ -1,0 +1,2 @@
+-- The marks of names that are taken.
+pub mod Marks

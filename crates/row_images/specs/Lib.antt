@@ -1,0 +1,2 @@
+-- Where images stand.
+pub mod ImageMap

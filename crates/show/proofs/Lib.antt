@@ -1,0 +1,2 @@
+-- Laws of Show's outcome.
+pub mod ShowLaws

@@ -1,0 +1,2 @@
+-- What Show promises.
+pub mod ShowOutcome
