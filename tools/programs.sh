@@ -165,3 +165,10 @@ make_current() {
     free_lock
     trap - EXIT INT TERM HUP
 }
+
+# The interface's number, and from what and by what the programs that run are made.
+tell_version() {
+    interface=$(sed -n 's/^#define PF_VERSION //p' "$top/include/phasefold.h")
+    { read -r marked && read -r toolchain && read -r made; } <"$mark" || return
+    printf 'pf %s\nsources %s\ntoolchain %s\n' "$interface" "${made%% *}" "$toolchain" 2>/dev/null
+}

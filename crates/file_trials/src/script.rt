@@ -1,13 +1,13 @@
 // The script on standard input: a line is a word and numbers, parted by single blanks; only the word's first letter counts.
+use text::bytes::find;
 use text::bytes::least;
-use text::bytes::line_end;
 use text::numbers::LARGEST;
 use text::numbers::with_digit;
 
 // The line that begins at `start`, without its line feed.
 pub fn line_at<'a>(script: &'a [u8], start: usize) -> &'a [u8] {
     let from = least(start, script.len());
-    let end = line_end(script, from);
+    let end = find(script, from, b'\n');
     &script[from..end]
 }
 

@@ -5,10 +5,14 @@ use fold_core::Folding;
 use listing::folds::CLOCK_ENTRIES;
 use listing::folds::work_room;
 use listing::rows::file_room;
+use text::bytes::first;
+use text::files::Loaded;
 use text::out::Out;
 use text::out::to;
 
 const WISH: u32 = 0;
+
+const INPUT: i32 = 0;
 
 const OUTPUT: i32 = 1;
 
@@ -35,17 +39,24 @@ fn put_answer(buffer: &mut [u8], file: &[u8], result: &mut [u8], work: &mut [u8]
 }
 
 // The text is written.
-fn fold_and_print(buffer: &mut [u8], file: &[u8], result: &mut [u8], work: &mut [u8]) {
-    let out = put_answer(buffer, file, result, work);
-    text::out::flush(buffer, out);
-}
-
-// Standard input is read.
-fn main() {
-    let mut input = file_room();
-    let size = io::read_full(0, &mut input);
+fn fold_and_print(file: &[u8]) {
     let mut buffer = io::large_buffer();
     let mut result = io::large_buffer();
     let mut work = work_room();
-    fold_and_print(&mut buffer, &input[..size], &mut result, &mut work);
+    let out = put_answer(&mut buffer, file, &mut result, &mut work);
+    text::out::flush(&buffer, out);
+}
+
+// Standard input is read; where that fails, nothing is printed.
+fn read_and_print(room: &mut [u8]) {
+    match text::files::load_from(INPUT, room) {
+        Loaded::Whole(size) => fold_and_print(first(room, size)),
+        Loaded::Longer(size) => fold_and_print(first(room, size)),
+        Loaded::Failed => os::fail(b"standard input"),
+    }
+}
+
+fn main() {
+    let mut room = file_room();
+    read_and_print(&mut room);
 }

@@ -3,7 +3,7 @@ use crate::causes::refuse;
 use crate::outcome::OUTPUT;
 use crate::outcome::Outcome;
 use crate::outcome::done_with;
-use crate::outcome::fail_at;
+use crate::outcome::fail_word;
 use crate::outcome::finish;
 use c_answers::PfCounts;
 use c_answers::PfRefusal;
@@ -18,12 +18,12 @@ use text::out::to;
 // ---- Check
 
 // Whether the file is accepted.
-pub fn check(file: &[u8]) -> Outcome {
+pub fn check(path: &[u8], file: &[u8]) -> Outcome {
     let refusal = phasefold::c_check::pf_check(file);
     if refusal.number == 0 {
         done_with(b"accepted\n", none())
     } else {
-        refuse(file, refusal, b"")
+        refuse(path, 0, file, refusal, b"")
     }
 }
 
@@ -51,12 +51,12 @@ pub fn count_refusal(counts: PfCounts) -> PfRefusal {
 }
 
 // How many rows of each sort the file has.
-pub fn count(file: &[u8]) -> Outcome {
+pub fn count(path: &[u8], file: &[u8]) -> Outcome {
     let counts = phasefold::c_count::pf_count(file);
     if counts.number == 0 {
         tell_counts(counts)
     } else {
-        refuse(file, count_refusal(counts), b"")
+        refuse(path, 0, file, count_refusal(counts), b"")
     }
 }
 
@@ -86,7 +86,7 @@ fn tell_part(part: &[u8]) -> Outcome {
 }
 
 // The row part of a block, or the refusal.
-fn show_block(file: &[u8], block: u32, word: &[u8]) -> Outcome {
+fn show_block(path: &[u8], file: &[u8], block: u32, word: &[u8]) -> Outcome {
     let mut number: u32 = 0;
     let mut place: u32 = 0;
     let part = phasefold::show(file, block, &mut number, &mut place);
@@ -97,15 +97,15 @@ fn show_block(file: &[u8], block: u32, word: &[u8]) -> Outcome {
             number: number,
             place: place,
         };
-        refuse(file, refusal, word)
+        refuse(path, 0, file, refusal, word)
     }
 }
 
 // The block is the number that the word has.
-pub fn show(file: &[u8], word: &[u8]) -> Outcome {
+pub fn show(path: &[u8], file: &[u8], word: &[u8]) -> Outcome {
     match text::numbers::read(word) {
-        Number::Is(block) => show_block(file, block, word),
-        Number::Not => fail_at(word, b": the block is not a number\n"),
+        Number::Is(block) => show_block(path, file, block, word),
+        Number::Not => fail_word(b"pf: the block ", word, b" is not a number\n"),
     }
 }
 
@@ -119,11 +119,11 @@ fn tell_rows(file: &[u8]) -> Outcome {
 }
 
 // All rows of an accepted file.
-pub fn rows(file: &[u8]) -> Outcome {
+pub fn rows(path: &[u8], file: &[u8]) -> Outcome {
     let refusal = phasefold::c_check::pf_check(file);
     if refusal.number == 0 {
         tell_rows(file)
     } else {
-        refuse(file, refusal, b"")
+        refuse(path, 0, file, refusal, b"")
     }
 }

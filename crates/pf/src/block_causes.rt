@@ -23,6 +23,17 @@ fn sum_of(block: &[u8]) -> usize {
     blocks::writer::word_sum(block, 128) as usize
 }
 
+// Whether a netlist file may begin with these bytes: mark, number and sum of the first block are right.
+pub fn is_first_block(bytes: &[u8]) -> bool {
+    if get(bytes, 1) != 0 {
+        return false;
+    }
+    match get(bytes, 0) {
+        1 | 2 => sum_of(bytes) == 4294967295,
+        _ => false,
+    }
+}
+
 // 2
 fn say_sum(block: &[u8], number: usize) {
     let sum = sum_of(block);

@@ -2,11 +2,11 @@
 use crate::outcome::ERRORS;
 use crate::outcome::OUTPUT;
 use crate::outcome::Outcome;
-use crate::outcome::fail;
 use crate::outcome::outcome_if;
 use crate::outcome::say_text;
 use text::both;
 use text::bytes::same;
+use text::either;
 use text::numbers::Number;
 use text::out::tell_padded;
 
@@ -24,6 +24,11 @@ pub enum Command {
     Unknown,
 }
 
+// Whether a word asks for help.
+pub fn is_help(word: &[u8]) -> bool {
+    either(same(word, b"--help"), same(word, b"-h"))
+}
+
 // The commands that make something of a file, and help.
 fn command_of_two_files(word: &[u8]) -> Command {
     if same(word, b"make") {
@@ -38,7 +43,7 @@ fn command_of_two_files(word: &[u8]) -> Command {
     if same(word, b"run") {
         return Command::Run;
     }
-    if same(word, b"help") {
+    if either(same(word, b"help"), is_help(word)) {
         return Command::Help;
     }
     Command::Unknown
@@ -77,7 +82,7 @@ pub fn count_right(command: Command, count: usize) -> bool {
         Command::Fold => within(count, 1, 3),
         Command::Clocks => within(count, 1, 2),
         Command::Run => count == 3,
-        Command::Help => count == 0,
+        Command::Help => count <= 1,
         Command::Unknown => false,
     }
 }
@@ -93,7 +98,7 @@ fn tell_form(fd: i32, command: Command, width: usize) -> bool {
         Command::Fold => tell_padded(fd, b"pf fold FILE [WISH [RESULT]]", width),
         Command::Clocks => tell_padded(fd, b"pf clocks FILE [WISH]", width),
         Command::Run => tell_padded(fd, b"pf run FILE STEPS VALUES", width),
-        Command::Help => tell_padded(fd, b"pf help", width),
+        Command::Help => tell_padded(fd, b"pf help [COMMAND]", width),
         Command::Unknown => tell_padded(
             fd,
             b"pf COMMAND ..., and pf help lists the commands",
@@ -120,7 +125,30 @@ fn tell_purpose(command: Command) -> bool {
         }
         Command::Clocks => put_out(b"the clocks of that fold, drawn phase by phase\n"),
         Command::Run => put_out(b"runs it on values 0 and 1; a line of outputs a step\n"),
-        _ => put_out(b"these lines\n"),
+        _ => put_out(b"these lines, or more on one command; pf --version tells what runs\n"),
+    }
+}
+
+// What else there is to say of a command.
+fn tell_details(command: Command) -> bool {
+    match command {
+        Command::Check => put_out(b"Prints `accepted`, or the refusal.\n"),
+        Command::Count => put_out(b"The constant is a node; X registers start unknown.\n"),
+        Command::Show => put_out(
+            b"In hexadecimal digits, a line a row. BLOCK is counted from 0.\n",
+        ),
+        Command::Rows => put_out(b"A literal is 2 x row, and 1 more if it is inverted.\n"),
+        Command::Make => put_out(
+            b"ROWS has a line for each row, in order: number kind reset a b c. # begins a remark.\nkind 0: the constant, row 0 alone\nkind 1: input, a label, b phase\nkind 2: register, a next value, b label; reset 0, 1, or 2 for unknown\nkind 3: AND of a and b; kind 4: XOR of a and b\nkind 5: MUX, b if a is 1, c if a is 0\nkind 6: output, a what it shows, b label, c phase\nA next value, an operand and what an output shows is a literal: 2 x row, and 1 more if it is inverted.\nA file at FILE is replaced only if it is empty or a netlist file. FILE may be - for standard output.\n",
+        ),
+        Command::Fold => put_out(
+            b"Prints stem and cycle of the lasso, phases, used generators, rows, and a line for each clock.\nThe fold is kept in RESULT. A file there is replaced only if it is empty or a netlist file.\nIf RESULT is -, the fold goes to standard output, and what is printed to standard error.\n",
+        ),
+        Command::Clocks => put_out(b"_ is 0 and # is 1.\n"),
+        Command::Run => put_out(
+            b"VALUES has 0s and 1s: one for each X register, then for each step one for each input.\n# begins a remark.\n",
+        ),
+        _ => true,
     }
 }
 
@@ -149,28 +177,51 @@ fn tell_help_of_work() -> bool {
     both(both(made, folded), both(drawn, ran))
 }
 
-// Help on help, and the exit statuses.
+// What holds for all commands.
 fn tell_last_lines() -> bool {
-    let helped = tell_help(Command::Help);
-    let ended = put_out(
-        b"exit status: 0 done, 1 refused (refused NUMBER PLACE), 2 a wrong call, or a file that cannot be read or written\n",
-    );
-    both(helped, ended)
+    put_out(
+        b"FILE, ROWS and VALUES may be - for standard input; ROWS and VALUES have at most 1048576 bytes\nexit status: 0 done, 1 refused (refused NUMBER PLACE), 2 a wrong call, or a file that cannot be read or written\n",
+    )
 }
 
-// All commands, and the exit statuses.
-pub fn help() -> Outcome {
+// All commands.
+fn help_on_all() -> Outcome {
     let files = tell_help_of_files();
     let work = tell_help_of_work();
+    let helped = tell_help(Command::Help);
     let last = tell_last_lines();
-    outcome_if(both(both(files, work), last), Outcome::Done)
+    outcome_if(both(both(files, work), both(helped, last)), Outcome::Done)
+}
+
+// One command.
+pub fn help_on(command: Command) -> Outcome {
+    match command {
+        Command::Unknown => wrong_call(command),
+        Command::Help => help_on_all(),
+        _ => {
+            let told = tell_help(command);
+            let detailed = tell_details(command);
+            let last = tell_last_lines();
+            outcome_if(both(told, both(detailed, last)), Outcome::Done)
+        }
+    }
+}
+
+// Help, on the command that a word names if there is one.
+pub fn help(count: usize, word: &[u8]) -> Outcome {
+    if count == 0 {
+        help_on_all()
+    } else {
+        help_on(command_of(word))
+    }
 }
 
 // The right form of the call, on standard error.
 pub fn wrong_call(command: Command) -> Outcome {
-    say_text(b"wrong call, the form is: ");
+    say_text(b"pf: wrong call, the form is: ");
     tell_form(ERRORS, command, 0);
-    fail(b"\n")
+    say_text(b"\n");
+    Outcome::Failed
 }
 
 // The wish: the word after the file, if there is one; else 0.

@@ -2,6 +2,7 @@
 use crate::block_causes::say_block_cause;
 use crate::outcome::Outcome;
 use crate::outcome::say;
+use crate::outcome::say_place;
 use crate::outcome::say_text;
 use crate::outcome::tell_refusal;
 use crate::row_causes::say_row_cause;
@@ -9,6 +10,8 @@ use c_answers::PfRefusal;
 use listing::rows::fields_of;
 use listing::rows::last_block;
 use listing::rows::row_count;
+use text::both;
+use text::bytes::get;
 use text::out::one;
 use text::out::two;
 
@@ -60,13 +63,13 @@ fn phase_of(file: &[u8], row: usize) -> usize {
 fn say_phase(file: &[u8], row: usize) {
     let phase = phase_of(file, row);
     say(
-        b"row #: phase #, and every phase of a netlist that is folded is 0",
+        b"row #: phase #, so this is a fold already: every phase of a netlist that is to be folded is 0",
         two(row, phase),
     );
 }
 
-// A word of the call and what is wrong with it.
-fn say_word(before: &[u8], word: &[u8], after: &[u8]) {
+// A number that is a word of the call, and what is wrong with it.
+fn say_number(before: &[u8], word: &[u8], after: &[u8]) {
     say_text(before);
     say_text(word);
     say_text(after);
@@ -74,15 +77,15 @@ fn say_word(before: &[u8], word: &[u8], after: &[u8]) {
 
 // 21
 fn say_no_block(file: &[u8], word: &[u8]) {
-    say_word(b"there is no block ", word, b", the last one is ");
+    say_number(b"there is no block ", word, b", the last one is ");
     say(b"#", one(last_block(file)));
 }
 
 // 14, 17 and 21, on the word that was given with the call.
 fn say_word_cause(file: &[u8], number: u32, word: &[u8]) {
     match number {
-        14 => say_word(b"the wish ", word, b" is not 0 to 8"),
-        17 => say_word(b"", word, b" steps, and a run has at most 4096"),
+        14 => say_number(b"the wish ", word, b" is not 0 to 8"),
+        17 => say_number(b"", word, b" steps, and a run has at most 4096"),
         _ => say_no_block(file, word),
     }
 }
@@ -119,11 +122,38 @@ fn say_cause(file: &[u8], number: u32, place: usize, word: &[u8]) {
     }
 }
 
-// A refusal is told.
-pub fn refuse(file: &[u8], refusal: PfRefusal, word: &[u8]) -> Outcome {
+// Whether a byte is one of a text.
+fn is_text_byte(byte: u8) -> bool {
+    match byte {
+        b'\t' | b'\n' | b'\r' => true,
+        32..=126 => true,
+        _ => false,
+    }
+}
+
+// Whether the first bytes are those of a text; a netlist file begins with a byte 1 or 2.
+fn looks_like_text(file: &[u8]) -> bool {
+    let start = both(is_text_byte(get(file, 0)), is_text_byte(get(file, 1)));
+    let more = both(is_text_byte(get(file, 2)), is_text_byte(get(file, 3)));
+    both(start, more)
+}
+
+// A file that is refused for its length or its first block may be a text.
+fn say_text_remark(file: &[u8], number: u32) {
+    if number <= 3 {
+        if looks_like_text(file) {
+            say_text(b"; it looks like text, of which pf make makes a netlist file");
+        }
+    }
+}
+
+// A refusal is told; `line` is that of the text that the file is made from, if it is.
+pub fn refuse(path: &[u8], line: usize, file: &[u8], refusal: PfRefusal, word: &[u8]) -> Outcome {
     let outcome = tell_refusal(refusal);
     let place = refusal.place as usize;
+    say_place(path, line);
     say_cause(file, refusal.number, place, word);
+    say_text_remark(file, refusal.number);
     say_text(b"\n");
     outcome
 }

@@ -2,8 +2,9 @@
 use crate::causes::refuse;
 use crate::outcome::OUTPUT;
 use crate::outcome::Outcome;
-use crate::outcome::fail_at;
+use crate::outcome::fail_word;
 use crate::outcome::finish;
+use crate::saving::save;
 use c_answers::PfRefusal;
 use fold_core::FoldNumbers;
 use fold_core::FoldRefusal;
@@ -133,24 +134,18 @@ fn tell_clocks(numbers: FoldNumbers, work: &[u8]) -> Outcome {
 
 // ---- the commands
 
-// What is made of a fold: its answers, with its file kept at a path or not; or its clocks drawn.
+// What is made of a fold: its answers, with its file kept or not; or its clocks drawn.
 enum Wanted {
     Answers,
     Kept,
     Clocks,
 }
 
-// The result's file is written to the path.
-fn keep(result: &[u8], rows: u32, path: &[u8]) -> bool {
-    text::files::save(path, first(result, file_bytes(rows)))
-}
-
 // The lines of a fold whose file is kept.
-fn tell_kept(numbers: FoldNumbers, work: &[u8], result: &[u8], path: &[u8]) -> Outcome {
-    if keep(result, numbers.after, path) {
-        tell_fold(numbers, work)
-    } else {
-        Outcome::Failed
+fn tell_kept(numbers: FoldNumbers, work: &[u8], result: &[u8], kept: &[u8]) -> Outcome {
+    match save(kept, first(result, file_bytes(numbers.after))) {
+        Outcome::Done => tell_fold(numbers, work),
+        _ => Outcome::Failed,
     }
 }
 
@@ -160,11 +155,11 @@ fn tell_wanted(
     numbers: FoldNumbers,
     work: &[u8],
     result: &[u8],
-    path: &[u8],
+    kept: &[u8],
 ) -> Outcome {
     match wanted {
         Wanted::Answers => tell_fold(numbers, work),
-        Wanted::Kept => tell_kept(numbers, work, result, path),
+        Wanted::Kept => tell_kept(numbers, work, result, kept),
         Wanted::Clocks => tell_clocks(numbers, work),
     }
 }
@@ -175,34 +170,48 @@ fn fold_into(file: &[u8], wish: u32, result: &mut [u8], work: &mut [u8]) -> Fold
 }
 
 // The fold by this wish, or the refusal.
-fn fold_by(wanted: Wanted, file: &[u8], wish: u32, word: &[u8], path: &[u8]) -> Outcome {
+fn fold_by(
+    wanted: Wanted,
+    path: &[u8],
+    file: &[u8],
+    wish: u32,
+    word: &[u8],
+    kept: &[u8],
+) -> Outcome {
     let mut result = io::large_buffer();
     let mut work = work_room();
     match fold_into(file, wish, &mut result, &mut work) {
-        Folding::Done(numbers) => tell_wanted(wanted, numbers, &work, &result, path),
-        Folding::Refused(refusal) => refuse(file, refusal_of(refusal), word),
+        Folding::Done(numbers) => tell_wanted(wanted, numbers, &work, &result, kept),
+        Folding::Refused(refusal) => refuse(path, 0, file, refusal_of(refusal), word),
     }
 }
 
 // The wish is the number that the word has, if it is given.
-fn fold_wanted(wanted: Wanted, count: usize, file: &[u8], word: &[u8], path: &[u8]) -> Outcome {
+fn fold_wanted(
+    wanted: Wanted,
+    count: usize,
+    path: &[u8],
+    file: &[u8],
+    word: &[u8],
+    kept: &[u8],
+) -> Outcome {
     match crate::call::wish_of(count, word) {
-        Number::Is(wish) => fold_by(wanted, file, wish, word, path),
-        Number::Not => fail_at(word, b": the wish is not a number\n"),
+        Number::Is(wish) => fold_by(wanted, path, file, wish, word, kept),
+        Number::Not => fail_word(b"pf: the wish ", word, b" is not a number\n"),
     }
 }
 
 // The file, the wish, and where the result is kept; the last two may be left out.
-pub fn fold(count: usize, file: &[u8], word: &[u8], path: &[u8]) -> Outcome {
+pub fn fold(count: usize, path: &[u8], file: &[u8], word: &[u8], kept: &[u8]) -> Outcome {
     let wanted = if count < 3 {
         Wanted::Answers
     } else {
         Wanted::Kept
     };
-    fold_wanted(wanted, count, file, word, path)
+    fold_wanted(wanted, count, path, file, word, kept)
 }
 
 // The file and the wish, which may be left out.
-pub fn clocks(count: usize, file: &[u8], word: &[u8]) -> Outcome {
-    fold_wanted(Wanted::Clocks, count, file, word, b"")
+pub fn clocks(count: usize, path: &[u8], file: &[u8], word: &[u8]) -> Outcome {
+    fold_wanted(Wanted::Clocks, count, path, file, word, b"")
 }

@@ -1,5 +1,5 @@
 // The command pf: Check, Count, Show, Fold and Run of netlist files, their rows as text and back, and clocks drawn.
-// Its outcome goes to descriptor 3 as a digit, for the script that starts it.
+// The script that starts it opens descriptor 3, to which its outcome goes as a digit, and those of a result that is kept (`saving`).
 mod answers;
 mod block_causes;
 mod call;
@@ -10,23 +10,36 @@ mod outcome;
 mod parse;
 mod row_causes;
 mod run;
+mod saving;
 
 use call::Command;
 use listing::rows::file_room;
 use outcome::Outcome;
+use outcome::fail;
+use outcome::fail_by_cause;
+use text::both;
 use text::bytes::first;
+use text::bytes::same;
+use text::either;
 use text::files::Loaded;
 
 // The commands that take a netlist file, its bytes read; `count` is how many words come after the command's name.
-fn answer(command: Command, count: usize, file: &[u8], second: &[u8], third: &[u8]) -> Outcome {
+fn answer(
+    command: Command,
+    count: usize,
+    path: &[u8],
+    file: &[u8],
+    second: &[u8],
+    third: &[u8],
+) -> Outcome {
     match command {
-        Command::Check => answers::check(file),
-        Command::Count => answers::count(file),
-        Command::Show => answers::show(file, second),
-        Command::Rows => answers::rows(file),
-        Command::Fold => folding::fold(count, file, second, third),
-        Command::Clocks => folding::clocks(count, file, second),
-        Command::Run => run::run(file, second, third),
+        Command::Check => answers::check(path, file),
+        Command::Count => answers::count(path, file),
+        Command::Show => answers::show(path, file, second),
+        Command::Rows => answers::rows(path, file),
+        Command::Fold => folding::fold(count, path, file, second, third),
+        Command::Clocks => folding::clocks(count, path, file, second),
+        Command::Run => run::run(path, file, second, third),
         _ => call::wrong_call(command),
     }
 }
@@ -41,9 +54,9 @@ fn read_and_answer(
     room: &mut [u8],
 ) -> Outcome {
     match text::files::load(path, room) {
-        Loaded::Whole(size) => answer(command, count, first(room, size), second, third),
-        Loaded::Longer(size) => answer(command, count, first(room, size), second, third),
-        Loaded::Failed => Outcome::Failed,
+        Loaded::Whole(size) => answer(command, count, path, first(room, size), second, third),
+        Loaded::Longer(size) => answer(command, count, path, first(room, size), second, third),
+        Loaded::Failed => fail_by_cause(path),
     }
 }
 
@@ -59,16 +72,55 @@ fn perform_on_file(
     read_and_answer(command, count, path, second, third, &mut room)
 }
 
-// A command, if it has as many words as it takes.
+// A command that has as many words as it takes.
+fn perform_counted(
+    command: Command,
+    count: usize,
+    path: &[u8],
+    second: &[u8],
+    third: &[u8],
+) -> Outcome {
+    match command {
+        Command::Make => make::make(path, second),
+        Command::Help => call::help(count, path),
+        _ => perform_on_file(command, count, path, second, third),
+    }
+}
+
+// Whether both files of a run are to be read from standard input.
+fn reads_twice(command: Command, path: &[u8], third: &[u8]) -> bool {
+    match command {
+        Command::Run => both(same(path, b"-"), same(third, b"-")),
+        _ => false,
+    }
+}
+
+// A command, if its words are as many as it takes, or ask for help.
 fn perform(command: Command, count: usize, path: &[u8], second: &[u8], third: &[u8]) -> Outcome {
+    if both(count == 1, call::is_help(path)) {
+        return call::help_on(command);
+    }
     if !call::count_right(command, count) {
         return call::wrong_call(command);
     }
-    match command {
-        Command::Make => make::make(path, second),
-        Command::Help => call::help(),
-        _ => perform_on_file(command, count, path, second, third),
+    if reads_twice(command, path, third) {
+        return fail(b"FILE and VALUES cannot both be standard input\n");
     }
+    perform_counted(command, count, path, second, third)
+}
+
+// Whether word `index` of the call is too long to be taken.
+fn is_too_long(index: usize) -> bool {
+    let mut word = io::buffer();
+    os::arg(index, &mut word);
+    os::errno() == libc::ENAMETOOLONG
+}
+
+// Whether one of the four words is.
+fn any_too_long() -> bool {
+    let early = either(is_too_long(1), is_too_long(2));
+    let late = either(is_too_long(3), is_too_long(4));
+    either(early, late)
 }
 
 // What the call's first word asks for.
@@ -80,6 +132,9 @@ fn first_command() -> Command {
 
 // The command and its words; `count` come after the command's name.
 fn perform_words(count: usize) -> Outcome {
+    if any_too_long() {
+        return fail(b"a word of the call has more than 4096 bytes\n");
+    }
     let mut path = io::buffer();
     let mut second = io::buffer();
     let mut third = io::buffer();
@@ -99,7 +154,7 @@ fn perform_words(count: usize) -> Outcome {
 fn perform_call() -> Outcome {
     let words = os::arg_count();
     if words < 2 {
-        call::help()
+        call::help(0, b"")
     } else {
         perform_words(words - 2)
     }

@@ -1,18 +1,27 @@
 // A netlist file made from a text of rows, or what is wrong with the text.
+use crate::block_causes::is_first_block;
 use crate::causes::refuse;
 use crate::outcome::OUTPUT;
 use crate::outcome::Outcome;
 use crate::outcome::fail_at;
+use crate::outcome::fail_by_cause;
 use crate::outcome::outcome_if;
 use crate::outcome::say;
+use crate::outcome::say_place;
 use crate::outcome::say_text;
+use crate::outcome::say_word;
 use crate::parse::LARGE;
 use crate::parse::Text;
 use crate::parse::Wrong;
+use crate::parse::line_of;
 use crate::parse::read_text;
+use crate::parse::word_of;
+use crate::saving::save;
+use c_answers::PfRefusal;
 use listing::rows::MOST_ROWS;
 use listing::rows::file_bytes;
 use text::bytes::first;
+use text::bytes::rest;
 use text::files::Loaded;
 use text::numbers::number_at;
 use text::out::one;
@@ -55,10 +64,17 @@ fn say_order(number: u32, rows: usize) {
     say(b", and # comes next", one(rows));
 }
 
-// What is wrong with a line.
-fn say_wrong(numbers: &[u32], rows: usize, wrong: Wrong) {
+// The word that begins at `at`, which is no number.
+fn say_no_number(text: &[u8], at: usize) {
+    let word = word_of(rest(text, at));
+    say_word(word);
+    say_text(b" is not a number");
+}
+
+// What is wrong with a line of the text that begins at `at`.
+fn say_wrong(text: &[u8], at: usize, numbers: &[u32], rows: usize, wrong: Wrong) {
     match wrong {
-        Wrong::Word => say_text(b"something that is no number"),
+        Wrong::Word(start) => say_no_number(text, std::num::wrapping_add_usize(at, start)),
         Wrong::Count(count) => say(
             b"numbers: #, and a row has 6: number kind reset a b c",
             one(count),
@@ -71,46 +87,38 @@ fn say_wrong(numbers: &[u32], rows: usize, wrong: Wrong) {
     }
 }
 
-// The refusal of a line: its number on standard output.
-fn tell_line(line: usize) -> Outcome {
+// The refusal of a line: its number on standard output, and how its message begins.
+fn tell_line(source: &[u8], line: usize) -> Outcome {
     let right = tell(OUTPUT, b"refused line #\n", one(line));
+    say_place(source, line);
     outcome_if(right, Outcome::Refused)
 }
 
-// A line is refused: what is wrong is told on standard error.
-fn refuse_line(line: usize, numbers: &[u32], rows: usize, wrong: Wrong) -> Outcome {
-    let outcome = tell_line(line);
-    say(b"line #: ", one(line));
-    say_wrong(numbers, rows, wrong);
-    say_text(b"\n");
-    outcome
-}
-
-// A text without rows is refused.
-fn refuse_empty() -> Outcome {
-    let outcome = tell_line(0);
-    say_text(b"the text has no row\n");
+// A whole text is refused at a line.
+fn refuse_text(source: &[u8], line: usize, cause: &[u8]) -> Outcome {
+    let outcome = tell_line(source, line);
+    say_text(cause);
     outcome
 }
 
 // ---- the file
 
-// The file is written to the path.
-fn save(path: &[u8], file: &[u8]) -> Outcome {
-    if text::files::save(path, file) {
-        Outcome::Done
-    } else {
-        Outcome::Failed
+// The line of the row at which a file is refused; 0 if it is refused as a whole.
+fn refused_line(text: &[u8], refusal: PfRefusal) -> usize {
+    let number = refusal.number;
+    match number {
+        6..=9 => line_of(text, refusal.place as usize),
+        _ => 0,
     }
 }
 
 // An accepted file is written to the path.
-fn save_accepted(path: &[u8], file: &[u8]) -> Outcome {
+fn save_accepted(source: &[u8], text: &[u8], path: &[u8], file: &[u8]) -> Outcome {
     let refusal = phasefold::c_check::pf_check(file);
     if refusal.number == 0 {
         save(path, file)
     } else {
-        refuse(file, refusal, b"")
+        refuse(source, refused_line(text, refusal), file, refusal, b"")
     }
 }
 
@@ -128,41 +136,54 @@ fn seal(result: &mut [u8], rows: usize) -> usize {
 }
 
 // The file of this many rows that stand in `result`.
-fn save_rows(path: &[u8], result: &mut [u8], rows: usize) -> Outcome {
+fn save_rows(source: &[u8], text: &[u8], path: &[u8], result: &mut [u8], rows: usize) -> Outcome {
     if rows == 0 {
-        return refuse_empty();
+        return refuse_text(source, 0, b"the text has no row\n");
     }
     let size = seal(result, rows);
-    save_accepted(path, first(result, size))
+    save_accepted(source, text, path, first(result, size))
 }
 
 // The file of a text, in the lent result.
-fn make_file(path: &[u8], text: &[u8], result: &mut [u8]) -> Outcome {
+fn make_file(source: &[u8], text: &[u8], path: &[u8], result: &mut [u8]) -> Outcome {
     let mut room = [0u32; 6];
     let numbers: &mut [u32] = &mut room;
     match read_text(text, numbers, result) {
-        Text::Wrong { line, rows, wrong } => refuse_line(line, numbers, rows, wrong),
-        Text::Rows(rows) => save_rows(path, result, rows),
+        Text::Wrong {
+            line,
+            at,
+            rows,
+            wrong,
+        } => {
+            let outcome = tell_line(source, line);
+            say_wrong(text, at, numbers, rows, wrong);
+            say_text(b"\n");
+            outcome
+        }
+        Text::Rows(rows) => save_rows(source, text, path, result, rows),
     }
 }
 
-// The file of a text.
-fn make_in_room(path: &[u8], text: &[u8]) -> Outcome {
+// The file of a text, unless it is a netlist file.
+fn make_in_room(source: &[u8], text: &[u8], path: &[u8]) -> Outcome {
+    if is_first_block(text) {
+        return refuse_text(source, 1, b"this is a netlist file already, and no text\n");
+    }
     let mut result = io::large_buffer();
-    make_file(path, text, &mut result)
+    make_file(source, text, path, &mut result)
 }
 
 // The text is read.
-fn make_from(rows: &[u8], path: &[u8], room: &mut [u8]) -> Outcome {
-    match text::files::load(rows, room) {
-        Loaded::Whole(size) => make_in_room(path, first(room, size)),
-        Loaded::Longer(_) => fail_at(rows, b": longer than 1048576 bytes\n"),
-        Loaded::Failed => Outcome::Failed,
+fn make_from(source: &[u8], path: &[u8], room: &mut [u8]) -> Outcome {
+    match text::files::load(source, room) {
+        Loaded::Whole(size) => make_in_room(source, first(room, size), path),
+        Loaded::Longer(_) => fail_at(source, b"longer than 1048576 bytes\n"),
+        Loaded::Failed => fail_by_cause(source),
     }
 }
 
-// A netlist file at `path` from the text in the file `rows`.
-pub fn make(rows: &[u8], path: &[u8]) -> Outcome {
+// A netlist file at `path` from the text in the file `source`.
+pub fn make(source: &[u8], path: &[u8]) -> Outcome {
     let mut room = text::files::long_room();
-    make_from(rows, path, &mut room)
+    make_from(source, path, &mut room)
 }

@@ -1,9 +1,12 @@
 // What came of a call, and what is told of it.
 use c_answers::PfRefusal;
 use listing::refusals::put_refusal;
+use text::bytes::same;
 use text::out::Out;
 use text::out::flush;
+use text::out::one;
 use text::out::tell;
+use text::out::tell_visible;
 use text::out::to;
 
 // Done, refused, or failed: a wrong call, or a file that cannot be read or written.
@@ -42,16 +45,65 @@ pub fn say(sentence: &[u8], numbers: [usize; 6]) {
     tell(ERRORS, sentence, numbers);
 }
 
+// A word that was read, in quotes; of a long one its first bytes.
+pub fn say_word(word: &[u8]) {
+    say_text(b"'");
+    tell_visible(ERRORS, text::bytes::first(word, 40));
+    say_text(b"'");
+}
+
+// A file's name.
+fn say_name(path: &[u8]) {
+    if same(path, b"-") {
+        say_text(b"standard input");
+    } else {
+        say_text(path);
+    }
+}
+
+// How a message on a file begins: with its name, and on a line of a text with the name and the line, which is counted from 1.
+pub fn say_place(path: &[u8], line: usize) {
+    if line == 0 {
+        say_text(b"pf: ");
+        say_name(path);
+        say_text(b": ");
+    } else {
+        say_name(path);
+        say(b":#: ", one(line));
+    }
+}
+
 // A sentence with its line feed.
 pub fn fail(sentence: &[u8]) -> Outcome {
+    say_text(b"pf: ");
     say_text(sentence);
     Outcome::Failed
 }
 
-// A word of the call or a file's name, and what is wrong with it, with the line feed.
-pub fn fail_at(word: &[u8], wrong: &[u8]) -> Outcome {
-    say_text(word);
-    fail(wrong)
+// What is wrong with a file, with the line feed.
+pub fn fail_at(path: &[u8], wrong: &[u8]) -> Outcome {
+    say_place(path, 0);
+    say_text(wrong);
+    Outcome::Failed
+}
+
+// What is wrong with a word of the call, with the line feed.
+pub fn fail_word(before: &[u8], word: &[u8], after: &[u8]) -> Outcome {
+    say_text(before);
+    say_word(word);
+    say_text(after);
+    Outcome::Failed
+}
+
+// A file cannot be read or written, for the cause that errno has.
+pub fn fail_by_cause(path: &[u8]) -> Outcome {
+    say_text(b"pf: ");
+    if same(path, b"-") {
+        os::fail(b"standard input");
+    } else {
+        os::fail(path);
+    }
+    Outcome::Failed
 }
 
 // ---- standard output

@@ -1,18 +1,18 @@
-// The rows of a text: a line a row, with its number, kind, reset, a, b and c; blank lines and lines that start with # say nothing.
+// The rows of a text: a line a row, with its number, kind, reset, a, b and c. What follows # in a line is a remark, and a line without anything else says nothing.
 ghost use Prim.Native.Nat.{_^_, _<_};
 ghost use Rattle.blockfile.specs.RowCode.{Small};
 use blockfile::Fields;
 use listing::rows::MOST_ROWS;
+use text::bytes::find;
 use text::bytes::is_blank;
-use text::bytes::line_end;
 use text::numbers::number_at;
 
 // Larger than every field; a number that is larger still is read as this.
 pub const LARGE: u32 = 65536;
 
-// What is wrong with a line.
+// What is wrong with a line; of a word that is no number, where in the line it begins.
 pub enum Wrong {
-    Word,
+    Word(usize),
     Count(usize),
     Order,
     Kind,
@@ -28,11 +28,12 @@ enum Line {
     Wrong(Wrong),
 }
 
-// How many rows the text has; or the first wrong line, counted from 1, and how many rows come before it.
+// How many rows the text has; or the first wrong line, counted from 1, where it begins, and how many rows come before it.
 pub enum Text {
     Rows(usize),
     Wrong {
         line: usize,
+        at: usize,
         rows: usize,
         wrong: Wrong,
     },
@@ -40,11 +41,12 @@ pub enum Text {
 
 // ---- a line
 
-// How many numbers a line has up to here, whether its last byte is part of one, and whether all is numbers.
+// How many words a line has up to here, whether its last byte is part of one, and whether all are numbers; and where the last one begins, or the first that is no number.
 struct Words {
     count: usize,
     inside: bool,
     right: bool,
+    start: usize,
 }
 
 // One digit more of the number in this slot, or the first one.
@@ -56,29 +58,54 @@ fn put_digit(numbers: &mut [u32], slot: usize, more: bool, digit: u8) {
     }
 }
 
-// A digit goes on with a number, or begins one.
-fn read_digit(numbers: &mut [u32], words: Words, digit: u8) -> Words {
-    let more = words.inside;
-    let next = std::num::wrapping_add_usize(words.count, 1);
-    let count = if more { words.count } else { next };
-    let slot = std::num::wrapping_sub_usize(count, 1);
-    put_digit(numbers, slot, more, digit);
+// A word begins at `i`.
+fn begin_word(words: Words, i: usize) -> Words {
+    let count = std::num::wrapping_add_usize(words.count, 1);
+    let start = if words.right { i } else { words.start };
     Words {
         count: count,
         inside: true,
         right: words.right,
+        start: start,
     }
 }
 
-// A byte of a line.
-fn read_byte(numbers: &mut [u32], words: Words, byte: u8) -> Words {
+// The byte at `i` is part of a word.
+fn in_word(words: Words, i: usize) -> Words {
+    if words.inside {
+        words
+    } else {
+        begin_word(words, i)
+    }
+}
+
+// A digit goes on with a word, or begins one.
+fn read_digit(numbers: &mut [u32], words: Words, i: usize, digit: u8) -> Words {
+    let more = words.inside;
+    let now = in_word(words, i);
+    let slot = std::num::wrapping_sub_usize(now.count, 1);
+    put_digit(numbers, slot, more, digit);
+    now
+}
+
+// A byte that is no digit: a blank, or part of a word that is no number.
+fn read_other(words: Words, i: usize, byte: u8) -> Words {
+    let blank = is_blank(byte);
+    let now = if blank { words } else { in_word(words, i) };
+    let right = if blank { now.right } else { false };
+    Words {
+        count: now.count,
+        inside: !blank,
+        right: right,
+        start: now.start,
+    }
+}
+
+// The byte of a line at `i`.
+fn read_byte(numbers: &mut [u32], words: Words, i: usize, byte: u8) -> Words {
     match byte {
-        b'0'..=b'9' => read_digit(numbers, words, byte - b'0'),
-        _ => Words {
-            count: words.count,
-            inside: false,
-            right: if words.right { is_blank(byte) } else { false },
-        },
+        b'0'..=b'9' => read_digit(numbers, words, i, byte - b'0'),
+        _ => read_other(words, i, byte),
     }
 }
 
@@ -88,10 +115,11 @@ fn read_words(line: &[u8], numbers: &mut [u32]) -> Words {
         count: 0,
         inside: false,
         right: true,
+        start: 0,
     };
     let mut i = 0;
     'bytes: while i < line.len() {
-        words = read_byte(numbers, words, line[i]);
+        words = read_byte(numbers, words, i, line[i]);
         i += 1;
     }
     words
@@ -108,6 +136,22 @@ fn first_byte(line: &[u8]) -> u8 {
         i += 1;
     }
     b'#'
+}
+
+// The word at the start of a text: what comes before a blank or a remark.
+pub fn word_of<'a>(text: &'a [u8]) -> &'a [u8] {
+    let mut end = 0;
+    'bytes: while end < text.len() {
+        let byte = text[end];
+        if is_blank(byte) {
+            return &text[0..end];
+        }
+        if byte == b'#' {
+            return &text[0..end];
+        }
+        end += 1;
+    }
+    text
 }
 
 // Whether a, b and c have 16 bits.
@@ -149,7 +193,7 @@ fn read_line(line: &[u8], numbers: &mut [u32], rows: usize) -> Line {
     }
     let words = read_words(line, numbers);
     if !words.right {
-        return Line::Wrong(Wrong::Word);
+        return Line::Wrong(Wrong::Word(words.start));
     }
     if words.count != 6 {
         return Line::Wrong(Wrong::Count(words.count));
@@ -202,9 +246,10 @@ fn put_fields(result: &mut [u8], row: usize, numbers: &[u32]) {
 
 // ---- the text
 
-// A line's row goes to its place.
+// A line's row goes to its place; a remark at the line's end is not read.
 fn take_line(line: &[u8], numbers: &mut [u32], rows: usize, result: &mut [u8]) -> Line {
-    let said = read_line(line, numbers, rows);
+    let end = find(line, 0, b'#');
+    let said = read_line(&line[0..end], numbers, rows);
     if let Line::Row = said {
         put_fields(result, rows, numbers);
     }
@@ -226,11 +271,12 @@ pub fn read_text(text: &[u8], numbers: &mut [u32], result: &mut [u8]) -> Text {
     let mut at = 0;
     'lines: while at < text.len() {
         line = std::num::wrapping_add_usize(line, 1);
-        let end = line_end(text, at);
+        let end = find(text, at, b'\n');
         let said = take_line(&text[at..end], numbers, rows, result);
         if let Line::Wrong(wrong) = said {
             return Text::Wrong {
                 line: line,
+                at: at,
                 rows: rows,
                 wrong: wrong,
             };
@@ -239,4 +285,23 @@ pub fn read_text(text: &[u8], numbers: &mut [u32], result: &mut [u8]) -> Text {
         at = end + 1;
     }
     Text::Rows(rows)
+}
+
+// The line of a row, counted from 1, in a text whose lines are right.
+pub fn line_of(text: &[u8], row: usize) -> usize {
+    let mut line = 0;
+    let mut rows = 0;
+    let mut at = 0;
+    'lines: while at < text.len() {
+        line = std::num::wrapping_add_usize(line, 1);
+        let end = find(text, at, b'\n');
+        if first_byte(&text[at..end]) != b'#' {
+            if rows == row {
+                return line;
+            }
+            rows = std::num::wrapping_add_usize(rows, 1);
+        }
+        at = end + 1;
+    }
+    line
 }

@@ -6,9 +6,13 @@ use crate::causes::refuse;
 use crate::outcome::OUTPUT;
 use crate::outcome::Outcome;
 use crate::outcome::fail_at;
+use crate::outcome::fail_by_cause;
+use crate::outcome::fail_word;
 use crate::outcome::finish;
 use crate::outcome::say;
+use crate::outcome::say_place;
 use crate::outcome::say_text;
+use crate::outcome::say_word;
 use crate::outcome::tell_refusal;
 use c_answers::PfCounts;
 use c_answers::PfRefusal;
@@ -33,103 +37,163 @@ fn work_room() -> [u8; 16384]
 
 // ---- values
 
-// The value of a byte of the text: that of a digit 0 or 1; any other byte is no value, and stands for itself.
+// What is read of a text of values: how many, the line that is read, and whether the rest of it is a remark; and of the first byte that is no value its line, which of the values it is, and the byte. Lines are counted from 1, and 0 is none.
+struct Values {
+    count: usize,
+    line: usize,
+    remark: bool,
+    wrong_line: usize,
+    wrong: usize,
+    byte: u8,
+}
+
+// The value of a byte of the text; any other than 0 and 1 is none.
 fn value_of(byte: u8) -> u8 {
     match byte {
         b'0' => 0,
         b'1' => 1,
-        0 | 1 => 255,
-        _ => byte,
+        _ => 255,
     }
 }
 
-// A byte's value goes to the end of the values, unless it is a blank; answers how many there are.
-fn take_byte(bytes: &mut [u8], count: usize, byte: u8) -> usize {
+// One value more; the first that is none is remembered.
+fn with_value(values: Values, value: u8, byte: u8) -> Values {
+    let count = std::num::wrapping_add_usize(values.count, 1);
+    let known = if value <= 1 {
+        true
+    } else {
+        values.wrong_line != 0
+    };
+    let wrong_line = if known {
+        values.wrong_line
+    } else {
+        values.line
+    };
+    let wrong = if known { values.wrong } else { values.count };
+    let seen = if known { values.byte } else { byte };
+    Values {
+        count: count,
+        line: values.line,
+        remark: values.remark,
+        wrong_line: wrong_line,
+        wrong: wrong,
+        byte: seen,
+    }
+}
+
+// The same values, on this line, in a remark or not.
+fn at_line(values: Values, line: usize, remark: bool) -> Values {
+    Values {
+        count: values.count,
+        line: line,
+        remark: remark,
+        wrong_line: values.wrong_line,
+        wrong: values.wrong,
+        byte: values.byte,
+    }
+}
+
+// A byte outside of remarks: a value goes to the end of the values.
+fn take_value(bytes: &mut [u8], values: Values, byte: u8) -> Values {
     if is_blank(byte) {
-        return count;
+        return values;
     }
-    text::bytes::put(bytes, count, value_of(byte));
-    std::num::wrapping_add_usize(count, 1)
+    let value = value_of(byte);
+    text::bytes::put(bytes, values.count, value);
+    with_value(values, value, byte)
 }
 
-// The values of a text, at its start; answers how many there are.
-fn read_values(bytes: &mut [u8], size: usize) -> usize {
-    let mut count = 0;
+// A byte of the text.
+fn take_byte(bytes: &mut [u8], values: Values, byte: u8) -> Values {
+    let line = values.line;
+    if byte == b'\n' {
+        return at_line(values, std::num::wrapping_add_usize(line, 1), false);
+    }
+    if values.remark {
+        return values;
+    }
+    if byte == b'#' {
+        return at_line(values, line, true);
+    }
+    take_value(bytes, values, byte)
+}
+
+// The values of a text, at its start.
+fn read_values(bytes: &mut [u8], size: usize) -> Values {
+    let mut values = Values {
+        count: 0,
+        line: 1,
+        remark: false,
+        wrong_line: 0,
+        wrong: 0,
+        byte: 0,
+    };
     let mut i = 0;
     'bytes: while i < size {
         let byte = get(bytes, i);
-        count = take_byte(bytes, count, byte);
+        values = take_byte(bytes, values, byte);
         i += 1;
     }
-    count
+    values
 }
 
 // ---- refusals 18 to 20
 
+// What a run is asked for: the number of steps, and the counts of the file.
+struct Asked {
+    steps: u32,
+    counts: PfCounts,
+}
+
 // 18
-fn say_lists(counts: PfCounts, steps: u32, values: &[u8]) {
-    let size = values.len();
+fn say_lists(source: &[u8], asked: Asked, count: usize) {
+    let counts = asked.counts;
     let unknown = counts.unknown as usize;
     let inputs = counts.inputs as usize;
-    let times = steps as usize;
+    let times = asked.steps as usize;
+    say_place(source, 0);
     say(
         b"there are # values, and should be # for X registers and # for inputs at each of # steps",
-        [size, unknown, inputs, times, 0, 0],
+        [count, unknown, inputs, times, 0, 0],
     );
 }
 
-// The first value that is not 0 or 1.
-fn first_wrong(values: &[u8]) -> usize {
-    let mut i = 0;
-    'values: while i < values.len() {
-        if 1 < values[i] {
-            return i;
-        }
-        i += 1;
-    }
-    i
-}
-
-// A byte as itself, if it can be seen.
-fn say_seen(byte: u8) {
-    let character = [byte; 1];
-    match byte {
-        33..=126 => say_text(&character),
-        _ => say_text(b"no visible character"),
-    }
-}
-
 // 19
-fn say_value(values: &[u8]) {
-    let at = first_wrong(values);
-    say(b"value #, counted from 0, is ", one(at));
-    say_seen(get(values, at));
+fn say_value(source: &[u8], values: Values) {
+    let seen = [values.byte; 1];
+    say_place(source, values.wrong_line);
+    say(b"value #, counted from 0, is ", one(values.wrong));
+    say_word(&seen);
     say_text(b", and should be 0 or 1");
 }
 
 // 20
-fn say_memory(counts: PfCounts, steps: u32) {
-    let times = steps as usize;
+fn say_memory(path: &[u8], asked: Asked) {
+    let counts = asked.counts;
+    let times = asked.steps as usize;
     let outputs = counts.outputs as usize;
+    say_place(path, 0);
     say(
         b"# steps of # outputs are more than the 1048576 values that pf has room for",
         two(times, outputs),
     );
 }
 
-// The sentence of a refusal of this number.
-fn say_run_cause(number: u32, counts: PfCounts, steps: u32, values: &[u8]) {
-    match number {
-        18 => say_lists(counts, steps, values),
-        19 => say_value(values),
-        _ => say_memory(counts, steps),
-    }
-}
-
 // A run is refused for its values or its memory.
-fn refuse_run(refusal: PfRefusal, counts: PfCounts, steps: u32, values: &[u8]) -> Outcome {
+fn refuse_run(
+    refusal: PfRefusal,
+    path: &[u8],
+    source: &[u8],
+    asked: Asked,
+    values: Values,
+) -> Outcome {
     let outcome = tell_refusal(refusal);
-    say_run_cause(refusal.number, counts, steps, values);
+    let number = refusal.number;
+    match number {
+        18 => say_lists(source, asked, values.count),
+        19 => say_value(source, values),
+        _ => say_memory(path, asked),
+    }
     say_text(b"\n");
     outcome
 }
@@ -174,81 +238,93 @@ fn tell_steps(values: &[u8], steps: u32, outputs: usize) -> Outcome {
 // ---- the command
 
 // The run in the lent memory; the first values are for the X registers.
-fn run_into(
-    file: &[u8],
-    steps: u32,
-    values: &[u8],
-    unknown: usize,
-    result: &mut [u8],
-) -> PfRefusal {
+fn run_into(file: &[u8], asked: Asked, bytes: &[u8], result: &mut [u8]) -> PfRefusal {
     let mut work = work_room();
-    let choices = first(values, unknown);
-    let inputs = rest(values, unknown);
-    phasefold::c_run::pf_run(file, steps, choices, inputs, result, &mut work)
+    let counts = asked.counts;
+    let unknown = counts.unknown as usize;
+    let choices = first(bytes, unknown);
+    let inputs = rest(bytes, unknown);
+    phasefold::c_run::pf_run(file, asked.steps, choices, inputs, result, &mut work)
 }
 
-// A run's outputs, or its refusal.
-fn tell_run(
+// The run of an accepted file: its outputs, or its refusal.
+fn run_accepted(
+    path: &[u8],
+    file: &[u8],
+    word: &[u8],
+    source: &[u8],
+    bytes: &[u8],
+    values: Values,
+    asked: Asked,
+) -> Outcome {
+    let mut room = text::files::long_room();
+    let result: &mut [u8] = &mut room;
+    let refusal = run_into(file, asked, bytes, result);
+    let counts = asked.counts;
+    let number = refusal.number;
+    match number {
+        0 => tell_steps(result, asked.steps, counts.outputs as usize),
+        18..=20 => refuse_run(refusal, path, source, asked, values),
+        _ => refuse(path, 0, file, refusal, word),
+    }
+}
+
+// The run on the values of the text at the start of the room, or the refusal of the file.
+fn run_text(
+    path: &[u8],
     file: &[u8],
     steps: u32,
     word: &[u8],
-    values: &[u8],
-    counts: PfCounts,
-    refusal: PfRefusal,
-    result: &[u8],
+    source: &[u8],
+    room: &mut [u8],
+    size: usize,
 ) -> Outcome {
-    let number = refusal.number;
-    match number {
-        0 => tell_steps(result, steps, counts.outputs as usize),
-        18..=20 => refuse_run(refusal, counts, steps, values),
-        _ => refuse(file, refusal, word),
-    }
-}
-
-// The run of an accepted file.
-fn run_accepted(file: &[u8], steps: u32, word: &[u8], values: &[u8], counts: PfCounts) -> Outcome {
-    let mut room = text::files::long_room();
-    let result: &mut [u8] = &mut room;
-    let unknown = counts.unknown as usize;
-    let refusal = run_into(file, steps, values, unknown, result);
-    tell_run(file, steps, word, values, counts, refusal, result)
-}
-
-// The run on these values, or the refusal of the file.
-fn run_values(file: &[u8], steps: u32, word: &[u8], values: &[u8]) -> Outcome {
     let counts = phasefold::c_count::pf_count(file);
-    if counts.number == 0 {
-        run_accepted(file, steps, word, values, counts)
-    } else {
-        refuse(file, count_refusal(counts), word)
+    if counts.number != 0 {
+        return refuse(path, 0, file, count_refusal(counts), word);
     }
-}
-
-// The values of the text at the start of the room.
-fn run_text(file: &[u8], steps: u32, word: &[u8], room: &mut [u8], size: usize) -> Outcome {
-    let count = read_values(room, size);
-    run_values(file, steps, word, first(room, count))
+    let values = read_values(room, size);
+    let asked = Asked {
+        steps: steps,
+        counts: counts,
+    };
+    run_accepted(
+        path,
+        file,
+        word,
+        source,
+        first(room, values.count),
+        values,
+        asked,
+    )
 }
 
 // The values are read.
-fn run_from(file: &[u8], steps: u32, word: &[u8], path: &[u8], room: &mut [u8]) -> Outcome {
-    match text::files::load(path, room) {
-        Loaded::Whole(size) => run_text(file, steps, word, room, size),
-        Loaded::Longer(_) => fail_at(path, b": longer than 1048576 bytes\n"),
-        Loaded::Failed => Outcome::Failed,
+fn run_from(
+    path: &[u8],
+    file: &[u8],
+    steps: u32,
+    word: &[u8],
+    source: &[u8],
+    room: &mut [u8],
+) -> Outcome {
+    match text::files::load(source, room) {
+        Loaded::Whole(size) => run_text(path, file, steps, word, source, room, size),
+        Loaded::Longer(_) => fail_at(source, b"longer than 1048576 bytes\n"),
+        Loaded::Failed => fail_by_cause(source),
     }
 }
 
-// The run of this many steps on the values in the file at `path`.
-fn run_steps(file: &[u8], steps: u32, word: &[u8], path: &[u8]) -> Outcome {
+// The run of this many steps on the values in the file `source`.
+fn run_steps(path: &[u8], file: &[u8], steps: u32, word: &[u8], source: &[u8]) -> Outcome {
     let mut room = text::files::long_room();
-    run_from(file, steps, word, path, &mut room)
+    run_from(path, file, steps, word, source, &mut room)
 }
 
 // The steps are the number that the word has.
-pub fn run(file: &[u8], word: &[u8], path: &[u8]) -> Outcome {
+pub fn run(path: &[u8], file: &[u8], word: &[u8], source: &[u8]) -> Outcome {
     match text::numbers::read(word) {
-        Number::Is(steps) => run_steps(file, steps, word, path),
-        Number::Not => fail_at(word, b": the steps are not a number\n"),
+        Number::Is(steps) => run_steps(path, file, steps, word, source),
+        Number::Not => fail_word(b"pf: the steps ", word, b" are not a number\n"),
     }
 }

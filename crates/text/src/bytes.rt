@@ -69,14 +69,14 @@ pub fn same(x: &[u8], y: &[u8]) -> bool {
     true
 }
 
-// Where the line that begins at `start` ends.
-pub fn line_end(text: &[u8], start: usize) -> usize
+// Where a byte first stands from `start` on; the end if it does not.
+pub fn find(text: &[u8], start: usize, wanted: u8) -> usize
     requires { ⌜ start ≤ length (now text) ⌝ }
     ensures { λ r. ⌜ (start ≤ r) × (r ≤ length (now (text .entry))) ⌝ }
 {
     let mut end = start;
     'bytes: while end < text.len() {
-        if text[end] == b'\n' {
+        if text[end] == wanted {
             return end;
         }
         end += 1;

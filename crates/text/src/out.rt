@@ -175,3 +175,32 @@ pub fn tell_padded(fd: i32, text: &[u8], width: usize) -> bool {
     let empty = flush(&room, out);
     empty.right
 }
+
+// ---- words of a text
+
+// A byte that can be seen; ? for any other.
+fn visible(byte: u8) -> u8 {
+    match byte {
+        33..=126 => byte,
+        _ => b'?',
+    }
+}
+
+// A word, of which every byte can be seen.
+fn put_visible(buffer: &mut [u8], out: Out, word: &[u8]) -> Out {
+    let mut now = out;
+    let mut i = 0;
+    'bytes: while i < word.len() {
+        now = put_byte(&mut *buffer, now, visible(word[i]));
+        i += 1;
+    }
+    now
+}
+
+// The same written at once; whether that went well.
+pub fn tell_visible(fd: i32, word: &[u8]) -> bool {
+    let mut room = io::buffer();
+    let out = put_visible(&mut room, to(fd), word);
+    let empty = flush(&room, out);
+    empty.right
+}
