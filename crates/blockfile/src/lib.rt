@@ -41,12 +41,13 @@ pub struct Fields {
     pub c: usize,
 }
 
-// The byte at which a row starts: 8 bytes for each row before it, and 8 more for each block.
+// The byte at which a row starts: 8 bytes for each row before it, and 8 more for each block. The remainder is the row itself: it shows the compiler that the number has 15 bits, and such a number is divided in fewer instructions.
 pub fn row_offset(row: usize) -> usize
     requires { ⌜ row < mostRows ⌝ }
     ensures { λ r. ⌜ r ≡ rowOffset row ⌝ }
 {
-    row * 8 + row / 63 * 8 + 4
+    let block = row % ROW_NUMBERS / BLOCK_ROWS;
+    row * 8 + block * 8 + 4
 }
 
 // The field of two bytes at `offset`.
