@@ -1,3 +1,4 @@
--- The laws of the three-valued rules, and of tables of codes.
+-- The laws of the three-valued rules, of complements of codes, and of tables of codes.
 pub mod RuleLaws
+pub mod ComplementLaws
 pub mod Tables

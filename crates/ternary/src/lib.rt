@@ -62,3 +62,12 @@ pub fn mux_code(s: u8, b: u8, c: u8) -> u8
     let place = (9 * s + 3 * b + c) as usize;
     MUX[place]
 }
+
+// The code, or its inverse if `inverted` is 1. The XOR of the two numbers makes 3 of an inverted X, which is 2.
+pub fn complement_code(inverted: u8, value: u8) -> u8
+    requires { ⌜ (inverted < 2) × (value < 3) ⌝ }
+    ensures { λ r. ⌜ r ≡ codeOf (xor3 (valueOf inverted) (valueOf value)) ⌝ }
+{
+    let flipped = value ^ inverted;
+    if flipped < 2 { flipped } else { 2 }
+}

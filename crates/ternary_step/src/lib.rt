@@ -41,7 +41,7 @@ pub fn register_code(work: &[u8], base: usize, j: usize) -> u8
 
 // ---- a row's value
 
-// A node's value, or its inverse: the XOR with 1.
+// A node's value, or its complement.
 pub fn literal_value(work: &[u8], literal: usize) -> u8
     requires { ⌜ (literal / 2 < mostOriginalRows) × Coded (now work) ⌝ }
     ensures { λ r. ⌜ (r ≡ codeOf (literalIn (now (work .entry)) literal)) × (r < 3) ⌝ }
@@ -49,7 +49,7 @@ pub fn literal_value(work: &[u8], literal: usize) -> u8
     let offset = VALUES + literal / 2;
     let value = work[offset];
     let inverted = (literal % 2) as u8;
-    ternary::xor_code(inverted, value)
+    ternary::complement_code(inverted, value)
 }
 
 fn and_value(work: &[u8], a: usize, b: usize) -> u8

@@ -1,4 +1,4 @@
--- `literal_value` meets its contract: the row's value, inverted by XOR with the literal's last bit.
+-- `literal_value` meets its contract: the row's value, or its complement by the literal's last bit.
 -- Assumes nothing.
 use Rattle.ternary_step.proofs.StateLaws.{literal-by, code-small}
 use borrow.Author.Needs.{needs}
@@ -8,8 +8,8 @@ use Rattle.ternary_step.proofs.literal_value.Tie as tie
 shared-slice-read-value : tie.Need-shared-slice-read-value
 shared-slice-read-value c = search needs
 
-xor-code-requires : tie.Need-xor-code-requires
-xor-code-requires c κs = search (code-small, needs)
+complement-code-requires : tie.Need-complement-code-requires
+complement-code-requires c κs = search (code-small, needs)
 
 returns : tie.Need-returns
 returns c = search literal-by
@@ -17,4 +17,4 @@ returns c = search literal-by
 pub literal-value-spec : {M : Type 1} → statement M
 literal-value-spec =
     tie.close
-    (tie.spec (λ c. search needs) shared-slice-read-value (λ c. search needs) xor-code-requires returns)
+    (tie.spec (λ c. search needs) shared-slice-read-value (λ c. search needs) complement-code-requires returns)
