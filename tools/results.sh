@@ -52,7 +52,9 @@ open_result() {
     check_name
     trap drop_side EXIT
     for signal in INT TERM HUP; do trap "stop_saving $signal" "$signal"; done
+    replaces=
     if [ -h "$path" ] || [ -e "$path" ]; then
+        replaces=yes
         check_old
         exec 5<"$path"
     else
@@ -64,18 +66,27 @@ open_result() {
 
 # The new file is given mode, owner and group of the old one. Where it cannot have the old group, its group may nothing.
 copy_mode() {
-    if ! [ -e "$path" ]; then
-        chmod =rw -- "$side"
-        return
-    fi
-    cp --attributes-only --preserve=mode,ownership -- "$path" "$side" 2>/dev/null || chmod --reference="$path" -- "$side" || return
+    cp --attributes-only --preserve=mode,ownership -- "$path" "$side" 2>/dev/null ||
+        chmod --reference="$path" -- "$side" || return
     [ "$(stat -c %g -- "$path")" = "$(stat -c %g -- "$side")" ] || chmod g= -- "$side"
+}
+
+replace_old() {
+    copy_mode && mv -fT -- "$side" "$path" 2>/dev/null || fail "$result: cannot be written"
+}
+
+# A file that has come to be there since the program was started stays.
+put_new() {
+    chmod =rw -- "$side" && mv -nT -- "$side" "$path" 2>/dev/null
+    [ -e "$side" ] || return 0
+    ! [ -e "$path" ] || fail "$result: has come to be there meanwhile, and is not replaced"
+    fail "$result: cannot be written"
 }
 
 # The new file takes the result's place, if there is one; the folder is synced where that can be.
 put_result() {
     [ -n "$side" ] || return 0
-    copy_mode && mv -fT -- "$side" "$path" 2>/dev/null || fail "$result: cannot be written"
+    if [ -n "$replaces" ]; then replace_old; else put_new; fi
     side=
     ! [ -r "$folder" ] || sync -- "$folder" || fail "${shown:-/}: this folder cannot be synced"
 }
