@@ -1,8 +1,7 @@
 /* phasefold: checks, counts, shows, folds and runs netlist files.
  *
- * A slice is a pointer and its length. The pointer is not null, even if the length is 0: nothing is
- * promised of a null pointer. All memory is lent by the caller: nothing is allocated, and nothing is
- * kept after the return. A part that is written, `result`, `work` or `clocks`, overlaps no other part
+ * A slice is a pointer and its length. With length 0 the pointer may be NULL; else it is not. All
+ * memory is lent by the caller: nothing is allocated, and nothing is kept after the return. A part that is written, `result`, `work` or `clocks`, overlaps no other part
  * of the same call. This is not tested: with parts that overlap, pf_fold has left a wrong netlist and
  * answered number 0.
  *

@@ -1,4 +1,4 @@
-/* limits FILE: the numbers of phasefold.h are those at which the library refuses. Prints each that is not. */
+/* limits FILE: the numbers of phasefold.h are those at which the library refuses, and NULL is taken as it says. Prints each that is not. */
 #include <stdio.h>
 #include <string.h>
 
@@ -49,6 +49,21 @@ static void expect_fold(size_t size)
     expect("clock entries that stay", kept, PF_FOLD_CLOCKS - folded.used);
 }
 
+/* A part of length 0 may be NULL, and is refused or not as any other of that length. */
+static void expect_null(size_t size)
+{
+    expect("check of NULL", pf_check(NULL, 0).number, 1);
+    expect("count of NULL", pf_count(NULL, 0).number, 1);
+    expect("show of NULL", pf_show(NULL, 0, 0).number, 1);
+    expect("fold of NULL", pf_fold(NULL, 0, 0, NULL, 0, NULL, 0, NULL, 0).number, 1);
+    expect("fold, result NULL", pf_fold(file, size, 0, NULL, 0, work, sizeof work, clocks, PF_FOLD_CLOCKS).number, 15);
+    expect("fold, work NULL", pf_fold(file, size, 0, result, sizeof result, NULL, 0, clocks, PF_FOLD_CLOCKS).number, 15);
+    expect("fold, clocks NULL", pf_fold(file, size, 0, result, sizeof result, work, sizeof work, NULL, 0).number, 15);
+    expect("run of NULL", pf_run(NULL, 0, 0, NULL, 0, NULL, 0, NULL, 0, NULL, 0).number, 1);
+    expect("run, no values, result NULL", pf_run(file, size, 0, NULL, 0, NULL, 0, NULL, 0, work, sizeof work).number, 0);
+    expect("run, work NULL", pf_run(file, size, 0, NULL, 0, NULL, 0, result, sizeof result, NULL, 0).number, 20);
+}
+
 int main(int count, char **words)
 {
     FILE *from = count == 2 ? fopen(words[1], "rb") : NULL;
@@ -71,5 +86,6 @@ int main(int count, char **words)
     expect("short work of run", run(size, PF_RUN_WORK - 1), 20);
     expect("show", pf_show(file, size, 0).size, PF_BLOCK_ROWS * 8);
     expect_fold(size);
+    expect_null(size);
     return wrong;
 }
