@@ -1,4 +1,4 @@
-// Netlist files built byte by byte: rows at their places, heads, and check words by a sum of its own.
+// Netlist files built byte by byte: rows, heads, and check words by a sum of its own.
 ghost use Prim.Native.Nat.{_<_};
 use crate::bytes::byte_at;
 use crate::bytes::field_at;
@@ -19,8 +19,8 @@ fn row_start(row: u16) -> u32
 {
     let index = row as u32;
     let block = index / 63;
-    let place = index % 63;
-    512 * block + 4 + 8 * place
+    let before = index % 63;
+    512 * block + 4 + 8 * before
 }
 
 // The field of two bytes at `at`.

@@ -44,8 +44,8 @@ pub fn file_bytes(rows: u32) -> usize
 // The fields of a row.
 pub fn fields_of(file: &[u8], row: usize) -> Fields {
     if row < MOST_ROWS {
-        let place = blockfile::row_offset(row);
-        let end = place + 8;
+        let offset = blockfile::row_offset(row);
+        let end = offset + 8;
         if end <= file.len() {
             return blockfile::read_row(file, row);
         }

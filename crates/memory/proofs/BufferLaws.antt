@@ -1,4 +1,4 @@
--- The laws of bytes written one run after another, and of bytes cleared from a place on.
+-- The laws of bytes written one run after another, and of bytes cleared from an offset on.
 -- Assumes nothing.
 use Prim.Native.Nat.{ℕ, suc, _+_, _-_, _/_, _^_, _<_, _≤_}
 use mathlib.Core.Path.{_≡_, refl, sym, ap, _∙_}

@@ -53,16 +53,16 @@ digits n l =
     omega arith
 
 module _ (s : List ℕ) (o : ℕ) where
-  -- A place written in another way.
-  place : (d e : ℕ) → e ≡ o + d → byteAt s e ≡ byteAt s (o + d)
-  place d e q = ap (byteAt s) q
+  -- An offset written in another way.
+  same-offset : (d e : ℕ) → e ≡ o + d → byteAt s e ≡ byteAt s (o + d)
+  same-offset d e q = ap (byteAt s) q
 
   pub u16-read : (n : ℕ) → n < 2 ^ 16 → byteAt s o ≡ byteAt (u16Bytes n) 0 → byteAt s (o + 1) ≡ byteAt (u16Bytes n) 1 → u16At s o ≡ n
   u16-read n l p q = omega arith
 
   pub u32-read : (n : ℕ) → n < 2 ^ 32 → ((d : ℕ) → d < 4 → byteAt s (o + d) ≡ byteAt (u32Bytes n) d) → u32At s o ≡ n
   u32-read n l h =
-      omega (arith, digits n l, place 0 o (omega arith), place 3 (o + 2 + 1) (omega arith), h 0 (omega arith), h 1 (omega arith), h 2 (omega arith), h 3 (omega arith))
+      omega (arith, digits n l, same-offset 0 o (omega arith), same-offset 3 (o + 2 + 1) (omega arith), h 0 (omega arith), h 1 (omega arith), h 2 (omega arith), h 3 (omega arith))
 
   module _ (b : IsBytes s) where
     pub u16-small : u16At s o < 2 ^ 16
@@ -75,8 +75,8 @@ module _ (s : List ℕ) (o : ℕ) where
     u16-write = (omega (arith, b o), omega (arith, b o, b (o + 1)))
 
     pub u32-write : (d : ℕ) → d < 4 → byteAt (u32Bytes (u32At s o)) d ≡ byteAt s (o + d)
-    u32-write zero l = omega (arith, b o, place 0 o (omega arith))
+    u32-write zero l = omega (arith, b o, same-offset 0 o (omega arith))
     u32-write (suc zero) l = omega (arith, b o, b (o + 1))
     u32-write (suc (suc zero)) l = omega (arith, b o, b (o + 1), b (o + 2))
-    u32-write (suc (suc (suc zero))) l = omega (arith, b o, b (o + 1), b (o + 2), b (o + 2 + 1), place 3 (o + 2 + 1) (omega arith))
+    u32-write (suc (suc (suc zero))) l = omega (arith, b o, b (o + 1), b (o + 2), b (o + 2 + 1), same-offset 3 (o + 2 + 1) (omega arith))
     u32-write (suc (suc (suc (suc d)))) l = absurd (omega arith)

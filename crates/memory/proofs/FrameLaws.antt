@@ -1,4 +1,4 @@
--- Bytes that stay while a part of the run is written, and a run of bytes put at a place and read again.
+-- Bytes that stay while a part of the run is written, and a run of bytes put at an offset and read again.
 -- Assumes nothing.
 use Prim.Native.Nat.{ℕ, zero, suc, _+_, _<_, _≤_, _^_}
 use mathlib.Core.Path.{_≡_, refl, sym, ap, _∙_}
@@ -44,7 +44,7 @@ kept-join lo hi w w′ w″ K L a b c d = record {
   after = λ x h. L .after x (omega arith) ∙ K .after x (omega arith);
 }
 
--- ---- a run of bytes put at a place
+-- ---- a run of bytes put at an offset
 
 pub kept-sets : (lo hi : ℕ) (vs l : List ℕ) (i : ℕ) → lo ≤ i → i + length vs ≤ hi → KeptOutside lo hi l (sets l i vs)
 kept-sets lo hi [] l i a b = kept-none lo hi l

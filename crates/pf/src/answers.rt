@@ -105,7 +105,7 @@ fn show_block(path: &[u8], file: &[u8], block: u32, word: &[u8]) -> Outcome {
 pub fn show(path: &[u8], file: &[u8], word: &[u8]) -> Outcome {
     match text::numbers::read(word) {
         Number::Is(block) => show_block(path, file, block, word),
-        Number::Not => fail_word(b"pf: the block ", word, b" is not a number\n"),
+        Number::Not => fail_word(b"the block ", word, b" is not a number\n"),
     }
 }
 

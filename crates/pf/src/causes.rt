@@ -2,8 +2,8 @@
 use crate::block_causes::say_block_cause;
 use crate::outcome::Outcome;
 use crate::outcome::say;
-use crate::outcome::say_place;
 use crate::outcome::say_text;
+use crate::outcome::say_where;
 use crate::outcome::tell_refusal;
 use crate::row_causes::say_row_cause;
 use c_answers::PfRefusal;
@@ -151,7 +151,7 @@ fn say_text_remark(file: &[u8], number: u32) {
 pub fn refuse(path: &[u8], line: usize, file: &[u8], refusal: PfRefusal, word: &[u8]) -> Outcome {
     let outcome = tell_refusal(refusal);
     let place = refusal.place as usize;
-    say_place(path, line);
+    say_where(path, line);
     say_cause(file, refusal.number, place, word);
     say_text_remark(file, refusal.number);
     say_text(b"\n");

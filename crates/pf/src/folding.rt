@@ -197,7 +197,7 @@ fn fold_wanted(
 ) -> Outcome {
     match crate::call::wish_of(count, word) {
         Number::Is(wish) => fold_by(wanted, path, file, wish, word, kept),
-        Number::Not => fail_word(b"pf: the wish ", word, b" is not a number\n"),
+        Number::Not => fail_word(b"the wish ", word, b" is not a number\n"),
     }
 }
 

@@ -7,8 +7,8 @@ use crate::outcome::fail_at;
 use crate::outcome::fail_by_cause;
 use crate::outcome::outcome_if;
 use crate::outcome::say;
-use crate::outcome::say_place;
 use crate::outcome::say_text;
+use crate::outcome::say_where;
 use crate::outcome::say_word;
 use crate::parse::LARGE;
 use crate::parse::Text;
@@ -90,7 +90,7 @@ fn say_wrong(text: &[u8], at: usize, numbers: &[u32], rows: usize, wrong: Wrong)
 // The refusal of a line: its number on standard output, and how its message begins.
 fn tell_line(source: &[u8], line: usize) -> Outcome {
     let right = tell(OUTPUT, b"refused line #\n", one(line));
-    say_place(source, line);
+    say_where(source, line);
     outcome_if(right, Outcome::Refused)
 }
 

@@ -52,7 +52,7 @@ pub fn say_word(word: &[u8]) {
     say_text(b"'");
 }
 
-// A file's name.
+// The name of a file that is read.
 fn say_name(path: &[u8]) {
     if same(path, b"-") {
         say_text(b"standard input");
@@ -62,7 +62,7 @@ fn say_name(path: &[u8]) {
 }
 
 // How a message on a file begins: with its name, and on a line of a text with the name and the line, which is counted from 1.
-pub fn say_place(path: &[u8], line: usize) {
+pub fn say_where(path: &[u8], line: usize) {
     if line == 0 {
         say_text(b"pf: ");
         say_name(path);
@@ -73,7 +73,7 @@ pub fn say_place(path: &[u8], line: usize) {
     }
 }
 
-// A sentence with its line feed.
+// A sentence, with its line feed if nothing follows it.
 pub fn fail(sentence: &[u8]) -> Outcome {
     say_text(b"pf: ");
     say_text(sentence);
@@ -82,14 +82,14 @@ pub fn fail(sentence: &[u8]) -> Outcome {
 
 // What is wrong with a file, with the line feed.
 pub fn fail_at(path: &[u8], wrong: &[u8]) -> Outcome {
-    say_place(path, 0);
+    say_where(path, 0);
     say_text(wrong);
     Outcome::Failed
 }
 
 // What is wrong with a word of the call, with the line feed.
 pub fn fail_word(before: &[u8], word: &[u8], after: &[u8]) -> Outcome {
-    say_text(before);
+    fail(before);
     say_word(word);
     say_text(after);
     Outcome::Failed

@@ -233,11 +233,11 @@ fn fields_in(numbers: &[u32]) -> Fields
     }
 }
 
-// The row of these numbers, at its place.
+// The row of these numbers, where it stands in the file.
 fn put_fields(result: &mut [u8], row: usize, numbers: &[u32]) {
     if row < MOST_ROWS {
-        let place = blockfile::row_offset(row);
-        let end = place + 8;
+        let offset = blockfile::row_offset(row);
+        let end = offset + 8;
         if end <= result.len() {
             blockfile::write_row(result, row, fields_in(numbers));
         }
@@ -246,7 +246,7 @@ fn put_fields(result: &mut [u8], row: usize, numbers: &[u32]) {
 
 // ---- the text
 
-// A line's row goes to its place; a remark at the line's end is not read.
+// A line's row is put where it stands in the file; a remark at the line's end is not read.
 fn take_line(line: &[u8], numbers: &mut [u32], rows: usize, result: &mut [u8]) -> Line {
     let end = find(line, 0, b'#');
     let said = read_line(&line[0..end], numbers, rows);
@@ -264,7 +264,7 @@ fn rows_in(line: Line) -> usize {
     }
 }
 
-// All lines, their rows at their places; or the first wrong line, its numbers as far as they were read.
+// All lines, their rows put where they stand in the file; or the first wrong line, its numbers as far as they were read.
 pub fn read_text(text: &[u8], numbers: &mut [u32], result: &mut [u8]) -> Text {
     let mut line = 0;
     let mut rows = 0;

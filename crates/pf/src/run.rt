@@ -10,8 +10,8 @@ use crate::outcome::fail_by_cause;
 use crate::outcome::fail_word;
 use crate::outcome::finish;
 use crate::outcome::say;
-use crate::outcome::say_place;
 use crate::outcome::say_text;
+use crate::outcome::say_where;
 use crate::outcome::say_word;
 use crate::outcome::tell_refusal;
 use c_answers::PfCounts;
@@ -151,7 +151,7 @@ fn say_lists(source: &[u8], asked: Asked, count: usize) {
     let unknown = counts.unknown as usize;
     let inputs = counts.inputs as usize;
     let times = asked.steps as usize;
-    say_place(source, 0);
+    say_where(source, 0);
     say(
         b"there are # values, and should be # for X registers and # for inputs at each of # steps",
         [count, unknown, inputs, times, 0, 0],
@@ -161,7 +161,7 @@ fn say_lists(source: &[u8], asked: Asked, count: usize) {
 // 19
 fn say_value(source: &[u8], values: Values) {
     let seen = [values.byte; 1];
-    say_place(source, values.wrong_line);
+    say_where(source, values.wrong_line);
     say(b"value #, counted from 0, is ", one(values.wrong));
     say_word(&seen);
     say_text(b", and should be 0 or 1");
@@ -172,7 +172,7 @@ fn say_memory(path: &[u8], asked: Asked) {
     let counts = asked.counts;
     let times = asked.steps as usize;
     let outputs = counts.outputs as usize;
-    say_place(path, 0);
+    say_where(path, 0);
     say(
         b"# steps of # outputs are more than the 1048576 values that pf has room for",
         two(times, outputs),
@@ -325,6 +325,6 @@ fn run_steps(path: &[u8], file: &[u8], steps: u32, word: &[u8], source: &[u8]) -
 pub fn run(path: &[u8], file: &[u8], word: &[u8], source: &[u8]) -> Outcome {
     match text::numbers::read(word) {
         Number::Is(steps) => run_steps(path, file, steps, word, source),
-        Number::Not => fail_word(b"pf: the steps ", word, b" are not a number\n"),
+        Number::Not => fail_word(b"the steps ", word, b" are not a number\n"),
     }
 }

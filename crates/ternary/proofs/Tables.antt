@@ -21,14 +21,14 @@ abbrev pub listOf : (n : ℕ) → Entries n → List ℕ
 listOf zero t = []
 listOf (suc n) t = t .0 ∷ listOf n (t .1)
 
--- Each entry is the code of what the rule says of its place.
+-- Each entry is the code of what the rule says of its index.
 abbrev pub agrees : (n : ℕ) → (ℕ → Ternary) → Entries n → Bool
 agrees n rule t = allBelow n (λ i. eqb (getD (listOf n t) i 0) (codeOf (rule i)))
 
 agrees-at : (n : ℕ) (rule : ℕ → Ternary) (t : Entries n) → agrees n rule t ≡ true → (i : ℕ) → i < n → getD (listOf n t) i 0 ≡ codeOf (rule i)
 agrees-at n rule t h i l = eqb-true (getD (listOf n t) i 0) (codeOf (rule i)) (allBelow-at n (λ j. eqb (getD (listOf n t) j 0) (codeOf (rule j))) h i l)
 
--- A rule of two values at the place 3 * a + b, and one of three at 9 * s + 3 * b + c.
+-- A rule of two values at the index 3 * a + b, and one of three at 9 * s + 3 * b + c.
 abbrev pub atPair : (Ternary → Ternary → Ternary) → ℕ → Ternary
 atPair rule i = rule (valueOf (i / 3)) (valueOf (i % 3))
 

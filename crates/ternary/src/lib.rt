@@ -43,24 +43,24 @@ pub fn and_code(a: u8, b: u8) -> u8
     requires { ⌜ (a < 3) × (b < 3) ⌝ }
     ensures { λ r. ⌜ r ≡ codeOf (and3 (valueOf a) (valueOf b)) ⌝ }
 {
-    let place = (3 * a + b) as usize;
-    AND[place]
+    let index = (3 * a + b) as usize;
+    AND[index]
 }
 
 pub fn xor_code(a: u8, b: u8) -> u8
     requires { ⌜ (a < 3) × (b < 3) ⌝ }
     ensures { λ r. ⌜ r ≡ codeOf (xor3 (valueOf a) (valueOf b)) ⌝ }
 {
-    let place = (3 * a + b) as usize;
-    XOR[place]
+    let index = (3 * a + b) as usize;
+    XOR[index]
 }
 
 pub fn mux_code(s: u8, b: u8, c: u8) -> u8
     requires { ⌜ (s < 3) × ((b < 3) × (c < 3)) ⌝ }
     ensures { λ r. ⌜ r ≡ codeOf (mux3 (valueOf s) (valueOf b) (valueOf c)) ⌝ }
 {
-    let place = (9 * s + 3 * b + c) as usize;
-    MUX[place]
+    let index = (9 * s + 3 * b + c) as usize;
+    MUX[index]
 }
 
 // The code, or its inverse if `inverted` is 1. The XOR of the two numbers makes 3 of an inverted X, which is 2.
