@@ -90,8 +90,9 @@ fn say_wrong(text: &[u8], at: usize, numbers: &[u32], rows: usize, wrong: Wrong)
 // The refusal of a line: its number on standard output, and how its message begins.
 fn tell_line(source: &[u8], line: usize) -> Outcome {
     let right = tell(OUTPUT, b"refused line #\n", one(line));
+    let outcome = outcome_if(right, Outcome::Refused);
     say_where(source, line);
-    outcome_if(right, Outcome::Refused)
+    outcome
 }
 
 // A whole text is refused at a line.

@@ -59,18 +59,18 @@ fn value_of(byte: u8) -> u8 {
 // One value more; the first that is none is remembered.
 fn with_value(values: Values, value: u8, byte: u8) -> Values {
     let count = std::num::wrapping_add_usize(values.count, 1);
-    let known = if value <= 1 {
+    let keeps = if value <= 1 {
         true
     } else {
         values.wrong_line != 0
     };
-    let wrong_line = if known {
+    let wrong_line = if keeps {
         values.wrong_line
     } else {
         values.line
     };
-    let wrong = if known { values.wrong } else { values.count };
-    let seen = if known { values.byte } else { byte };
+    let wrong = if keeps { values.wrong } else { values.count };
+    let seen = if keeps { values.byte } else { byte };
     Values {
         count: count,
         line: values.line,
