@@ -2,7 +2,8 @@
 //! No buffer is cleared before an operation; both sides get the same buffers.
 
 use crate::netlist::{
-    constant, encode, input, output, random_netlist, register, row, Random, Row, Shape,
+    constant, encode, input, moved, output, random_netlist, register, row, shuffled, Random, Row,
+    Shape,
 };
 use crate::twin::Clock;
 use crate::{library, twin};
@@ -11,6 +12,7 @@ pub enum Task {
     Check,
     Count,
     Show { block: u32 },
+    Sort,
     Run { steps: u32, choices: Vec<u8>, inputs: Vec<u8> },
     Fold { wish: u32 },
 }
@@ -49,7 +51,14 @@ impl Case {
         }
     }
 
-    /// Does the operation once; answers whether the file was accepted.
+    /// Sorts the file naively, if it is to be sorted at all.
+    pub fn once_naively(&mut self) -> Option<bool> {
+        let Case { file, result, work, .. } = self;
+        let Task::Sort = self.task else { return None };
+        Some(twin::sort_naively(file, &mut result[..file.len()], &mut work[..16_384]).is_ok())
+    }
+
+    /// Does the operation once; answers whether it was done.
     pub fn once(&mut self, side: Side) -> bool {
         let Case { file, result, work, clocks, .. } = self;
         let ours = side == Side::Library;
@@ -60,6 +69,10 @@ impl Case {
             Task::Count => twin::count(file).is_ok(),
             Task::Show { block } if ours => library::show(file, *block).is_ok(),
             Task::Show { block } => twin::show(file, *block).is_ok(),
+            Task::Sort if ours => {
+                library::sort(file, &mut result[..file.len()], &mut work[..16_384]).is_ok()
+            }
+            Task::Sort => twin::sort(file, &mut result[..file.len()], &mut work[..16_384]).is_ok(),
             Task::Run { steps, choices, inputs } if ours => {
                 library::run(file, *steps, choices, inputs, result, &mut work[..16_384]).is_ok()
             }
@@ -146,6 +159,81 @@ fn longest_cone() -> Vec<Row> {
     rows
 }
 
+/// A netlist of one input, gates and one output, which shows the last gate; gate i is made from i.
+fn gates_alone(all: usize, gate: impl Fn(usize) -> Row) -> Vec<Row> {
+    let mut rows = vec![constant(), input(0, 0)];
+    rows.extend((2..all - 1).map(gate));
+    rows.push(output(2 * (all - 2), 0, 0));
+    rows
+}
+
+/// Each gate names the one before it.
+fn chain(all: usize) -> Vec<Row> {
+    gates_alone(all, |i| row(3, 0, 2 * (i - 1) + 1, 2, 0))
+}
+
+/// Gates that name any three earlier nodes, shuffled.
+fn shuffled_muxes(all: usize) -> Vec<Row> {
+    let mut random = Random(7);
+    let draws: Vec<usize> = (0..3 * all).map(|_| random.next() as usize >> 1).collect();
+    let literal = |i: usize, k: usize| draws[3 * i + k] % (2 * i);
+    let rows = gates_alone(all, |i| row(5, 0, literal(i, 0), literal(i, 1), literal(i, 2)));
+    shuffled(&mut random, &rows)
+}
+
+/// The netlist with its gates in the places that `place` says, from 0 on.
+fn placed(rows: &[Row], place: impl Fn(usize, usize) -> usize) -> Vec<Row> {
+    let gates = rows.len() - 3;
+    let places: Vec<usize> = (0..rows.len())
+        .map(|i| if (2..gates + 2).contains(&i) { 2 + place(i - 2, gates) } else { i })
+        .collect();
+    moved(rows, &places)
+}
+
+/// The chain's gates stand at the end, at the front, and so on in turns towards the middle.
+fn in_turns(all: usize) -> Vec<Row> {
+    placed(&chain(all), |i, gates| if i % 2 == 0 { gates - 1 - i / 2 } else { i / 2 })
+}
+
+/// The last gate is named by all others.
+fn feeding_all(all: usize) -> Vec<Row> {
+    gates_alone(all, |i| {
+        let node = if i == all - 2 { 1 } else { all - 2 };
+        row(3, 0, 2 * node, 2 * node + 1, 0)
+    })
+}
+
+/// A chain whose last gate names itself.
+fn loop_at_the_end(all: usize) -> Vec<Row> {
+    let mut rows = chain(all);
+    rows[all - 2].b = 2 * (all as u16 - 2);
+    rows
+}
+
+/// Sorts of files of 8,064 rows, and of one block.
+fn sort_cases() -> Vec<Case> {
+    let all = 8064;
+    let reversed = placed(&chain(all), |i, gates| gates - 1 - i);
+    let long = [
+        ("in order", random_file(8000, 64)),
+        ("shuffled MUXes", encode(&shuffled_muxes(all))),
+        ("reversed chain", encode(&reversed)),
+        ("chain in turns", encode(&in_turns(all))),
+        ("one feeds all", encode(&feeding_all(all))),
+        ("loop at the end", encode(&loop_at_the_end(all))),
+    ];
+    let mut cases: Vec<Case> = long
+        .into_iter()
+        .map(|(name, file)| {
+            let mut case = Case::new(&format!("Sort, {name}"), 1.5, Task::Sort, file);
+            case.most = Some(4000.0);
+            case
+        })
+        .collect();
+    cases.push(Case::new("Sort, 63 rows", 3.0, Task::Sort, encode(&shuffled_muxes(63))));
+    cases
+}
+
 /// The wish that a design is measured with.
 pub fn wish_of(design: &str) -> u32 {
     if design == "w8_fold" {
@@ -167,6 +255,7 @@ pub fn all_cases(designs: &[(String, Vec<u8>)]) -> Vec<Case> {
         run_case(1000, 8, 4096, 1.2),
         run_case(60, 3, 1, 0.0),
     ];
+    cases.extend(sort_cases());
     for (name, file) in designs {
         let wish = wish_of(name);
         let target = match name.as_str() {

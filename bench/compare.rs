@@ -1,8 +1,8 @@
 //! Compares the library's answers, and all memory lent to it, with the twin's.
 
 use crate::netlist::{
-    constant, damage, encode, input, output, random_netlist, random_shape, register, row, Random,
-    Shape,
+    constant, damage, encode, input, output, random_netlist, random_shape, redrawn, register, row,
+    shuffled, Random, Shape,
 };
 use crate::twin::{Clock, Folded, Refusal};
 use crate::{library, twin};
@@ -11,7 +11,7 @@ use crate::{library, twin};
 /// library differed.
 #[derive(Default)]
 struct Tally {
-    answered: [usize; 22],
+    answered: [usize; 24],
     differences: usize,
 }
 
@@ -86,6 +86,36 @@ fn compare_checks(files: usize) -> [Tally; 3] {
         compare(&random_file(&mut random, most, true));
     }
     [checks, counts, shows]
+}
+
+/// Sort of files whose nodes stand in any order, also by the naive sorter; some have loops.
+fn compare_sorts(files: usize) -> Tally {
+    let mut random = Random(6);
+    let mut tally = Tally::default();
+    for _ in 0..files {
+        let most = if random.one_in(40) { 8064 } else { 600 };
+        let shape = random_shape(&mut random, most, true);
+        let rows = random_netlist(&mut random, shape);
+        let mixed = shuffled(&mut random, &rows);
+        let mut file = encode(&redrawn(&mut random, mixed));
+        if random.one_in(4) {
+            file = damage(&file, &mut random);
+        }
+        let result = vec![0xA5; nearly(&mut random, file.len()) + 100 * random.below(2)];
+        let work = vec![0x5A; nearly(&mut random, 16_384)];
+        let [mut mine, mut others, mut naive] = [(); 3].map(|_| (result.clone(), work.clone()));
+        let ours = library::sort(&file, &mut mine.0, &mut mine.1);
+        let other = twin::sort(&file, &mut others.0, &mut others.1);
+        let third = twin::sort_naively(&file, &mut naive.0, &mut naive.1);
+        let same = ours == other && mine == others && other == third && others == naive;
+        tally.add(&other, same, || {
+            let parts = [mine.0 == others.0, mine.1 == others.1, others == naive];
+            format!(
+                "Sort {ours:?}, twin {other:?}, naive {third:?}; result, work, naive same: {parts:?}"
+            )
+        });
+    }
+    tally
 }
 
 /// A length, sometimes one off.
@@ -202,10 +232,17 @@ fn sample_is_right() -> bool {
 /// Compares all operations; answers the number of differences.
 pub fn compare_all(designs: &[(String, Vec<u8>)]) -> usize {
     let [checks, counts, shows] = compare_checks(10_000);
+    let sorts = compare_sorts(4_000);
     let runs = compare_runs(4_000);
     let folds = compare_folds(6_000, designs);
-    let all =
-        [("Check", checks), ("Count", counts), ("Show", shows), ("Run", runs), ("Fold", folds)];
+    let all = [
+        ("Check", checks),
+        ("Count", counts),
+        ("Show", shows),
+        ("Sort", sorts),
+        ("Run", runs),
+        ("Fold", folds),
+    ];
     for (name, tally) in &all {
         tally.print(name);
     }

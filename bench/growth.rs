@@ -2,7 +2,9 @@
 
 use crate::cases::{run_task, Case, Task};
 use crate::library;
-use crate::netlist::{constant, encode, input, output, random_gate, register, row, Random, Row};
+use crate::netlist::{
+    constant, encode, input, output, random_gate, register, row, shuffled, Random, Row,
+};
 use crate::twin::Clock;
 
 /// The smallest netlist there is, then ten times as many rows, up to Fold's limit and the file's.
@@ -60,13 +62,17 @@ pub fn print_folds() {
 /// Each operation at each size: the operation, the rows, the case.
 pub fn all_cases() -> Vec<(&'static str, usize, Case)> {
     let mut cases = Vec::new();
-    for name in ["Check", "Count", "Show", "Run", "Fold"] {
+    for name in ["Check", "Count", "Show", "Sort", "Run", "Fold"] {
         for rows in SIZES {
-            let file = encode(&family(rows));
+            let file = match name {
+                "Sort" => encode(&shuffled(&mut Random(8), &family(rows))),
+                _ => encode(&family(rows)),
+            };
             let task = match name {
                 "Check" => Task::Check,
                 "Count" => Task::Count,
                 "Show" => Task::Show { block: file.len() as u32 / 512 - 1 },
+                "Sort" => Task::Sort,
                 "Run" => run_task(&file, STEPS),
                 _ if rows > MOST_FOLDED => continue,
                 _ => Task::Fold { wish: 0 },

@@ -22,6 +22,12 @@ struct PfShown {
 }
 
 #[repr(C)]
+struct PfWritten {
+    refusal: PfRefusal,
+    rows: u32,
+}
+
+#[repr(C)]
 struct PfRefusal {
     number: u32,
     place: u32,
@@ -31,6 +37,14 @@ extern "C" {
     fn pf_check(file: *const u8, file_len: usize) -> PfRefusal;
     fn pf_count(file: *const u8, file_len: usize) -> PfCounts;
     fn pf_show(file: *const u8, file_len: usize, block: u32) -> PfShown;
+    fn pf_sort(
+        file: *const u8,
+        file_len: usize,
+        result: *mut u8,
+        result_len: usize,
+        work: *mut u8,
+        work_len: usize,
+    ) -> PfWritten;
     fn pf_fold(
         file: *const u8,
         file_len: usize,
@@ -78,6 +92,13 @@ pub fn show(file: &[u8], block: u32) -> Result<&[u8], Refusal> {
     let told = unsafe { pf_show(file.as_ptr(), file.len(), block) };
     let (offset, size) = (told.offset as usize, told.size as usize);
     answer(told.refusal, &file[offset..offset + size])
+}
+
+pub fn sort(file: &[u8], result: &mut [u8], work: &mut [u8]) -> Result<u32, Refusal> {
+    let (file_len, result_len, work_len) = (file.len(), result.len(), work.len());
+    let (result, work) = (result.as_mut_ptr(), work.as_mut_ptr());
+    let told = unsafe { pf_sort(file.as_ptr(), file_len, result, result_len, work, work_len) };
+    answer(told.refusal, told.rows)
 }
 
 pub fn run(

@@ -1,6 +1,7 @@
 //! Compares the library with a plain Rust twin: first the answers, then the time.
 //!
-//!     main DESIGNS                            compare, then print the table of ratios;
+//!     main DESIGNS                            compare, then print the table of ratios, and the
+//!                                             times of a naive sorter;
 //!                                             exit status 1 if an answer differs
 //!     main DESIGNS --growth                   print the table of times by rows
 //!     main DESIGNS --aiger FILE OUT           write a netlist file as binary AIGER
@@ -65,25 +66,43 @@ fn best_times(case: &mut Case) -> (f64, f64) {
 }
 
 fn verdict(case: &Case, ours: f64, ratio: f64) -> String {
-    let goal = match (case.target, case.most) {
-        (Some(target), _) => (format!("at most {target}"), ratio <= target),
-        (_, Some(most)) => (format!("at most {most} µs"), ours <= most),
-        _ => return String::new(),
-    };
-    format!("{}{}", goal.0, if goal.1 { "" } else { ": MISSED" })
+    let ratio = case.target.map(|target| (format!("at most {target}"), ratio <= target));
+    let time = case.most.map(|most| (format!("at most {most} µs"), ours <= most));
+    let told = |(goal, met): (String, bool)| goal + if met { "" } else { ": MISSED" };
+    ratio.into_iter().chain(time).map(told).collect::<Vec<_>>().join(", ")
 }
 
-fn print_table(mut cases: Vec<Case>) {
+/// The best of three times of the naive sorter, and how often the library's time that is.
+fn print_naive(cases: &mut [(Case, f64)]) {
+    println!("{:28} {:>11} {:>11} {:>6}", "", "library µs", "naive µs", "factor");
+    for (case, ours) in cases {
+        if case.once_naively().is_none() {
+            continue;
+        }
+        let timed = (0..3).map(|_| {
+            let start = Instant::now();
+            black_box(case.once_naively());
+            start.elapsed().as_secs_f64() * 1e6
+        });
+        let naive = timed.fold(f64::MAX, f64::min);
+        println!("{:28} {ours:11.2} {naive:11.2} {:6.1}", case.name, naive / *ours);
+    }
+}
+
+fn print_table(cases: Vec<Case>) {
     println!("{:28} {:>11} {:>11} {:>6}  target", "", "library µs", "twin µs", "ratio");
-    for case in &mut cases {
-        let (ours, twin) = best_times(case);
+    let mut timed = Vec::new();
+    for mut case in cases {
+        let (ours, twin) = best_times(&mut case);
         let ratio = ours / twin;
         println!(
             "{:28} {ours:11.2} {twin:11.2} {ratio:6.2}  {}",
             case.name,
-            verdict(case, ours, ratio)
+            verdict(&case, ours, ratio)
         );
+        timed.push((case, ours));
     }
+    print_naive(&mut timed);
 }
 
 /// Each operation on netlists of one family; the last column is the library's time for each row.

@@ -202,6 +202,46 @@ pub fn random_netlist(random: &mut Random, shape: Shape) -> Vec<Row> {
     rows
 }
 
+/// How many of the fields a, b, c are literals.
+fn literals(kind: u8) -> usize {
+    [0, 0, 1, 2, 2, 3, 1][usize::from(kind)]
+}
+
+/// The netlist with row i in place `places[i]`.
+pub fn moved(rows: &[Row], places: &[usize]) -> Vec<Row> {
+    let mut moved = rows.to_vec();
+    for (row, &place) in rows.iter().zip(places) {
+        let mut row = *row;
+        for field in [&mut row.a, &mut row.b, &mut row.c].into_iter().take(literals(row.kind)) {
+            *field = 2 * places[usize::from(*field / 2)] as u16 + *field % 2;
+        }
+        moved[place] = row;
+    }
+    moved
+}
+
+/// The netlist with its nodes in any order; row 0 and the outputs stay.
+pub fn shuffled(random: &mut Random, rows: &[Row]) -> Vec<Row> {
+    let nodes = rows.iter().filter(|row| row.kind != 6).count();
+    let mut places: Vec<usize> = (0..rows.len()).collect();
+    for i in 2..nodes {
+        places.swap(i, 1 + random.below(i));
+    }
+    moved(rows, &places)
+}
+
+/// The netlist with some operands of gates drawn again from all nodes, so that there may be loops.
+pub fn redrawn(random: &mut Random, mut rows: Vec<Row>) -> Vec<Row> {
+    let nodes = rows.iter().filter(|row| row.kind != 6).count();
+    for _ in 0..random.below(4) {
+        let at = random.below(nodes);
+        if (3..=5).contains(&rows[at].kind) {
+            rows[at].a = random.below(2 * nodes) as u16;
+        }
+    }
+    rows
+}
+
 /// A shape for a netlist of at most `most` rows.
 pub fn random_shape(random: &mut Random, most: usize, phases: bool) -> Shape {
     let rings = random.below(5);

@@ -1,5 +1,6 @@
-//! A plain Rust phase folder, written from the scope paper alone: the answers and the speed of the
-//! library are compared with it. It allocates what it needs and clears `work` as the paper asks.
+//! A plain Rust phase folder, written from the scope paper alone, and a sorter by the same passes as
+//! the library's: the answers and the speed of the library are compared with it. It allocates what it
+//! needs and clears `work` as the paper asks.
 
 /// The number of the question that was answered no, and its place.
 #[derive(Clone, Copy, PartialEq, Eq, Debug)]
@@ -175,15 +176,25 @@ fn fields_right(row: Row) -> bool {
     }
 }
 
+/// Which nodes a gate may name.
+#[derive(Clone, Copy, PartialEq)]
+enum Gates {
+    InOrder,
+    InAnyOrder,
+}
+
 /// Question 9.
-fn literals_right(file: &[u8], rows: usize, index: usize, row: Row) -> bool {
+fn literals_right(file: &[u8], rows: usize, index: usize, row: Row, gates: Gates) -> bool {
     let node = |literal: u16| usize::from(literal / 2);
-    let below = |literal: u16| node(literal) < index;
     let any = |literal: u16| node(literal) < rows && kind_of(file, node(literal)) != OUTPUT;
+    let operand = |literal: u16| match gates {
+        Gates::InOrder => node(literal) < index,
+        Gates::InAnyOrder => any(literal),
+    };
     match row.kind {
         REGISTER | OUTPUT => any(row.a),
-        AND | XOR => below(row.a) && below(row.b),
-        MUX => below(row.a) && below(row.b) && below(row.c),
+        AND | XOR => operand(row.a) && operand(row.b),
+        MUX => operand(row.a) && operand(row.b) && operand(row.c),
         _ => true,
     }
 }
@@ -196,6 +207,7 @@ fn check_row(
     row: Row,
     seen: &mut Seen,
     outputs: &mut bool,
+    gates: Gates,
 ) -> Result<(), Refusal> {
     let output = row.kind == OUTPUT;
     if row.kind > OUTPUT || (row.kind == CONSTANT) != (index == 0) || (*outputs && !output) {
@@ -208,21 +220,21 @@ fn check_row(
     if label_key(row).is_some_and(|key| !seen.add(key)) {
         return refuse(8, index);
     }
-    if !literals_right(file, rows, index, row) {
+    if !literals_right(file, rows, index, row, gates) {
         return refuse(9, index);
     }
     Ok(())
 }
 
 /// Questions 6 to 10.
-fn check_rows(file: &[u8]) -> Result<(), Refusal> {
+fn check_rows(file: &[u8], gates: Gates) -> Result<(), Refusal> {
     let rows = row_count(file);
     let mut seen = Seen::new(rows);
     let mut outputs = false;
     let mut index = 0;
     for block in file.chunks_exact(BLOCK) {
         for bytes in block_rows(block) {
-            check_row(file, rows, index, decode(bytes), &mut seen, &mut outputs)?;
+            check_row(file, rows, index, decode(bytes), &mut seen, &mut outputs, gates)?;
             index += 1;
         }
     }
@@ -234,7 +246,7 @@ fn check_rows(file: &[u8]) -> Result<(), Refusal> {
 }
 
 /// Questions 1 to 10.
-pub fn check(file: &[u8]) -> Result<(), Refusal> {
+fn check_file(file: &[u8], gates: Gates) -> Result<(), Refusal> {
     if file.is_empty() || file.len() % BLOCK != 0 || file.len() > MOST_BYTES {
         return refuse(1, 0);
     }
@@ -242,7 +254,11 @@ pub fn check(file: &[u8]) -> Result<(), Refusal> {
     for (index, block) in file.chunks_exact(BLOCK).enumerate() {
         check_block(block, index, index + 1 == blocks)?;
     }
-    check_rows(file)
+    check_rows(file, gates)
+}
+
+pub fn check(file: &[u8]) -> Result<(), Refusal> {
+    check_file(file, Gates::InOrder)
 }
 
 fn count_rows(file: &[u8]) -> Counts {
@@ -620,6 +636,22 @@ fn cone(rows: &[Row]) -> Vec<bool> {
     kept
 }
 
+/// The row with its literals renumbered.
+fn renumbered(mut row: Row, number: impl Fn(usize) -> u16) -> Row {
+    let renumber = |literal: u16| 2 * number(usize::from(literal / 2)) + (literal & 1);
+    let literals = literal_count(row.kind);
+    if literals > 0 {
+        row.a = renumber(row.a);
+    }
+    if literals > 1 {
+        row.b = renumber(row.b);
+    }
+    if literals > 2 {
+        row.c = renumber(row.c);
+    }
+    row
+}
+
 /// The kept rows, in order and renumbered.
 fn compact(rows: &[Row]) -> Vec<Row> {
     let kept = cone(rows);
@@ -629,21 +661,8 @@ fn compact(rows: &[Row]) -> Vec<Row> {
         *number = count;
         count += u16::from(keep);
     }
-    let renumber = |literal: u16| 2 * numbers[usize::from(literal / 2)] + (literal & 1);
-    let renumbered = |mut row: Row| {
-        let literals = literal_count(row.kind);
-        if literals > 0 {
-            row.a = renumber(row.a);
-        }
-        if literals > 1 {
-            row.b = renumber(row.b);
-        }
-        if literals > 2 {
-            row.c = renumber(row.c);
-        }
-        row
-    };
-    rows.iter().zip(&kept).filter(|(_, &keep)| keep).map(|(&row, _)| renumbered(row)).collect()
+    let renumber = |row: Row| renumbered(row, |node| numbers[node]);
+    rows.iter().zip(&kept).filter(|(_, &keep)| keep).map(|(&row, _)| renumber(row)).collect()
 }
 
 fn write_row(bytes: &mut [u8], row: Row) {
@@ -737,4 +756,211 @@ pub fn fold(
         before: rows.len() as u32,
         after: folded.len() as u32,
     })
+}
+
+// ---- Sort ----
+
+/// The nodes that a gate names; none of another row.
+fn operands(row: Row) -> impl Iterator<Item = usize> {
+    let count = match row.kind {
+        AND | XOR => 2,
+        MUX => 3,
+        _ => 0,
+    };
+    [row.a, row.b, row.c].into_iter().take(count).map(|literal| usize::from(literal / 2))
+}
+
+fn is_gate(row: Row) -> bool {
+    (AND..=MUX).contains(&row.kind)
+}
+
+/// While a gate is walked through, its slot holds 1 more than the row that led to it, and 1 at the root.
+const SETTLED: u16 = u16::MAX;
+
+/// Settles all that a gate waits for, and then the gate; false if it waits for a loop.
+fn settle_gate(rows: &[Row], slots: &mut [u16], root: usize) -> bool {
+    slots[root] = 1;
+    let mut row = root;
+    loop {
+        match operands(rows[row]).find(|&node| slots[node] != SETTLED) {
+            None => {
+                let led = std::mem::replace(&mut slots[row], SETTLED);
+                if led == 1 {
+                    return true;
+                }
+                row = usize::from(led) - 1;
+            }
+            Some(next) if slots[next] != 0 => return false,
+            Some(next) => {
+                slots[next] = row as u16 + 1;
+                row = next;
+            }
+        }
+    }
+}
+
+/// The lowest gate that waits for a loop.
+fn find_loop(rows: &[Row]) -> Option<usize> {
+    let mut slots: Vec<u16> =
+        rows.iter().map(|&row| if is_gate(row) { 0 } else { SETTLED }).collect();
+    (0..rows.len()).find(|&row| slots[row] == 0 && !settle_gate(rows, &mut slots, row))
+}
+
+/// The gates that name a node, the highest first; 0 ends a list.
+struct Users {
+    heads: Vec<u16>,
+    next: Vec<[u16; 3]>,
+}
+
+impl Users {
+    fn of(rows: &[Row]) -> Users {
+        let mut users = Users { heads: vec![0; rows.len()], next: vec![[0; 3]; rows.len()] };
+        for (index, &row) in rows.iter().enumerate() {
+            for (entry, node) in users.next[index].iter_mut().zip(operands(row)) {
+                *entry = users.heads[node];
+            }
+            for node in operands(row) {
+                users.heads[node] = index as u16;
+            }
+        }
+        users
+    }
+
+    /// The next user of the node after this one.
+    fn after(&self, rows: &[Row], user: usize, node: usize) -> usize {
+        let entry = operands(rows[user]).position(|named| named == node).unwrap();
+        usize::from(self.next[user][entry])
+    }
+}
+
+const READY: u16 = 1;
+const PLACED: u16 = 1 << 15;
+const GROUP: usize = 64;
+
+/// The slots of all rows, and a mark for each group of them that may have one that is ready.
+struct Order {
+    slots: Vec<u16>,
+    marks: Vec<bool>,
+    next: u16,
+}
+
+impl Order {
+    fn place(&mut self, row: usize) {
+        self.slots[row] = PLACED + self.next;
+        self.next += 1;
+    }
+
+    fn place_kinds(&mut self, rows: &[Row], kinds: std::ops::RangeInclusive<u8>) {
+        for (index, _) in rows.iter().enumerate().filter(|(_, row)| kinds.contains(&row.kind)) {
+            self.place(index);
+        }
+    }
+
+    /// Makes a gate ready, if all that it names is placed.
+    fn wake(&mut self, rows: &[Row], gate: usize) -> bool {
+        let ready = operands(rows[gate]).all(|node| self.slots[node] >= PLACED);
+        if ready {
+            self.slots[gate] = READY;
+            self.marks[gate / GROUP] = true;
+        }
+        ready
+    }
+
+    /// The lowest gate that is ready, where none before `low` is.
+    fn lowest_ready(&mut self, low: usize) -> Option<usize> {
+        let end = self.slots.len();
+        let ready_in = |slots: &[u16], from: usize, to: usize| {
+            slots[from..to].iter().position(|&slot| slot == READY).map(|found| from + found)
+        };
+        let group = low / GROUP;
+        let found = ready_in(&self.slots, low, (GROUP * (group + 1)).min(end));
+        if found.is_some() {
+            return found;
+        }
+        for group in group + 1..self.marks.len() {
+            if self.marks[group] {
+                let found = ready_in(&self.slots, GROUP * group, (GROUP * (group + 1)).min(end));
+                if found.is_some() {
+                    return found;
+                }
+                self.marks[group] = false;
+            }
+        }
+        None
+    }
+}
+
+/// The new number of each row, and 32,768 more; no gate waits for a loop.
+fn number_rows(rows: &[Row]) -> Vec<u16> {
+    let groups = rows.len().div_ceil(GROUP);
+    let mut order = Order { slots: vec![0; rows.len()], marks: vec![false; groups], next: 0 };
+    order.place_kinds(rows, CONSTANT..=REGISTER);
+    let users = Users::of(rows);
+    for gate in (0..rows.len()).filter(|&index| is_gate(rows[index])) {
+        order.wake(rows, gate);
+    }
+    let mut low = 0;
+    while let Some(gate) = order.lowest_ready(low) {
+        order.place(gate);
+        low = gate;
+        let mut user = usize::from(users.heads[gate]);
+        while user != 0 {
+            if order.wake(rows, user) {
+                low = low.min(user);
+            }
+            user = users.after(rows, user, gate);
+        }
+    }
+    order.place_kinds(rows, OUTPUT..=OUTPUT);
+    order.slots
+}
+
+/// The rows in their new order, renumbered.
+fn move_rows(rows: &[Row], numbers: &[u16]) -> Vec<Row> {
+    let mut moved = vec![rows[0]; rows.len()];
+    for (&row, &number) in rows.iter().zip(numbers) {
+        moved[usize::from(number - PLACED)] = renumbered(row, |node| numbers[node] - PLACED);
+    }
+    moved
+}
+
+/// Questions 1 to 10 for gates in any order, and 23; then the rows.
+fn sort_questions(file: &[u8], result: usize, work: usize) -> Result<Vec<Row>, Refusal> {
+    check_file(file, Gates::InAnyOrder)?;
+    if result < file.len() || work < 16_384 {
+        return refuse(23, 0);
+    }
+    Ok(decode_rows(file))
+}
+
+/// Sorts a file; answers how many rows it has.
+pub fn sort(file: &[u8], result: &mut [u8], work: &mut [u8]) -> Result<u32, Refusal> {
+    work.fill(0);
+    let rows = sort_questions(file, result.len(), work.len())?;
+    if let Some(row) = find_loop(&rows) {
+        return refuse(22, row);
+    }
+    write_file(&move_rows(&rows, &number_rows(&rows)), result);
+    Ok(rows.len() as u32)
+}
+
+/// The same, but after each gate that is placed it looks for the next from the first row on.
+pub fn sort_naively(file: &[u8], result: &mut [u8], work: &mut [u8]) -> Result<u32, Refusal> {
+    work.fill(0);
+    let rows = sort_questions(file, result.len(), work.len())?;
+    let mut order = Order { slots: vec![0; rows.len()], marks: Vec::new(), next: 0 };
+    order.place_kinds(&rows, CONSTANT..=REGISTER);
+    let left = |slots: &[u16], index: usize| is_gate(rows[index]) && slots[index] < PLACED;
+    let placed =
+        |slots: &[u16], index: usize| operands(rows[index]).all(|node| slots[node] >= PLACED);
+    let all = 0..rows.len();
+    while let Some(gate) = all.clone().find(|&i| left(&order.slots, i) && placed(&order.slots, i)) {
+        order.place(gate);
+    }
+    if let Some(row) = all.clone().find(|&i| left(&order.slots, i)) {
+        return refuse(22, row);
+    }
+    order.place_kinds(&rows, OUTPUT..=OUTPUT);
+    write_file(&move_rows(&rows, &order.slots), result);
+    Ok(rows.len() as u32)
 }

@@ -1,4 +1,4 @@
-/* phasefold: checks, counts, shows, folds and runs netlist files.
+/* phasefold: checks, counts, shows, sorts, folds and runs netlist files.
  *
  * A slice is a pointer and its length. With length 0 the pointer may be NULL; else it is not. All
  * memory is lent by the caller: nothing is allocated, and nothing is kept after the return. A part that is written, `result`, `work` or `clocks`, overlaps no other part
@@ -6,7 +6,7 @@
  * answered number 0.
  *
  * Every answer starts with a refusal: the number of the question whose answer was no, and its place
- * (a block for numbers 2 to 5, a row for 6 to 9 and 13, else 0). Both are 0 on success; the answer's
+ * (a block for numbers 2 to 5, a row for 6 to 9, 13 and 22, else 0). Both are 0 on success; the answer's
  * other fields are 0 on a refusal. A refusal changes no lent memory but `work`, which is all zero
  * after every return.
  *
@@ -21,7 +21,7 @@
 #include <stdint.h>
 
 /* Another number for every change of this interface. */
-#define PF_VERSION 1
+#define PF_VERSION 2
 
 /* A block's bytes and rows, and the bytes of the longest file. */
 #define PF_BLOCK_SIZE 512
@@ -38,6 +38,9 @@
 
 /* What pf_run needs, at least: bytes of `work`. */
 #define PF_RUN_WORK 16384
+
+/* What pf_sort needs, at least: bytes of `work`. */
+#define PF_SORT_WORK 16384
 
 #ifdef __cplusplus
 extern "C" {
@@ -57,6 +60,9 @@ typedef struct { uint32_t number, place, stem, cycle, phases, used, before, afte
 /* A used generator: its register's label, its period, bit k of `word` its value in phase k, and how
  * many bits of `word` are set. */
 typedef struct { uint16_t label; uint8_t period, word; uint32_t ones; } pf_clock;
+
+/* The rows of the file that was written. */
+typedef struct { uint32_t number, place, rows; } pf_written;
 
 /* Is this a netlist file? Refusals 1 to 10. */
 pf_refusal pf_check(const uint8_t *file, size_t file_len);
@@ -82,6 +88,15 @@ pf_folded pf_fold(const uint8_t *file, size_t file_len, uint32_t wish, uint8_t *
  * of `work` are needed. Refusals 1 to 10 and 17 to 20. */
 pf_refusal pf_run(const uint8_t *file, size_t file_len, uint32_t steps, const uint8_t *choices, size_t choices_len,
                   const uint8_t *inputs, size_t inputs_len, uint8_t *result, size_t result_len, uint8_t *work, size_t work_len);
+
+/* Puts a file whose gates stand in any order into one that the others take: a gate may name any node.
+ * The constant comes first, then inputs and registers in row order, then always the lowest-numbered
+ * gate whose gate operands are all placed, then the outputs in row order. `result` then starts with
+ * the sorted file, as long as `file`, and is zero after it. At least `file_len` bytes of `result` and
+ * PF_SORT_WORK of `work` are needed. Refusals 1 to 10, then 23 (memory) and 22 (a loop of gates; the
+ * place is the lowest gate that is in a loop or behind one). */
+pf_written pf_sort(const uint8_t *file, size_t file_len, uint8_t *result, size_t result_len,
+                   uint8_t *work, size_t work_len);
 
 #ifdef __cplusplus
 }

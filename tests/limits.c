@@ -29,9 +29,15 @@ static size_t run(size_t size, size_t work_size)
     return pf_run(file, size, 0, none, 0, none, 0, result, sizeof result, work, work_size).number;
 }
 
+static size_t sort(size_t size, size_t result_size, size_t work_size)
+{
+    return pf_sort(file, size, result, result_size, work, work_size).number;
+}
+
 static void fill(uint8_t value)
 {
     memset(result, value, sizeof result);
+    memset(work, value, sizeof work);
     memset(clocks, value, sizeof clocks);
 }
 
@@ -49,12 +55,59 @@ static void expect_fold(size_t size)
     expect("clock entries that stay", kept, PF_FOLD_CLOCKS - folded.used);
 }
 
+static void set_field(size_t row, size_t field, unsigned value)
+{
+    uint8_t *at = file + 4 + 8 * row + 2 + 2 * field;
+    at[0] = value & 255;
+    at[1] = value >> 8;
+}
+
+/* Makes the check of the first block right. */
+static void seal(void)
+{
+    uint32_t sum = 0;
+    for (size_t k = 0; k < 508; k += 4) sum += file[k] | file[k + 1] << 8 | file[k + 2] << 16 | (uint32_t)file[k + 3] << 24;
+    for (size_t k = 0; k < 4; k++) file[508 + k] = ~sum >> 8 * k & 255;
+}
+
+/* What a sort leaves, of the sample whose row 5 names row 6: zeros after the file, which is accepted, and in work; then with a loop of both. */
+static void expect_sort(size_t size)
+{
+    size_t zeros = 0, clear = 0;
+    set_field(5, 1, 12);
+    seal();
+    expect("gates in any order", pf_check(file, size).number, 9);
+    fill(0xa5);
+    pf_written sorted = pf_sort(file, size, result, sizeof result, work, PF_SORT_WORK);
+    for (size_t k = size; k < sizeof result; k++) zeros += result[k] == 0;
+    for (size_t k = 0; k < sizeof work; k++) clear += work[k] == 0;
+    expect("sort", sorted.number, 0);
+    expect("the sorted file's rows", sorted.rows, 8);
+    expect("the sorted file", pf_check(result, size).number, 0);
+    expect("zeros after the sorted file", zeros, sizeof result - size);
+    expect("work that is zero after sort", clear, PF_SORT_WORK);
+    expect("the least result of sort", sort(size, size, PF_SORT_WORK), 0);
+    expect("a short result of sort", sort(size, size - 1, PF_SORT_WORK), 23);
+    expect("short work of sort", sort(size, size, PF_SORT_WORK - 1), 23);
+    expect("sort, result NULL", pf_sort(file, size, NULL, 0, work, sizeof work).number, 23);
+    expect("sort, work NULL", pf_sort(file, size, result, sizeof result, NULL, 0).number, 23);
+    set_field(6, 1, 10);
+    seal();
+    fill(0xa5);
+    sorted = pf_sort(file, size, result, sizeof result, work, PF_SORT_WORK);
+    expect("a loop", sorted.number, 22);
+    expect("its place", sorted.place, 5);
+    expect("its rows", sorted.rows, 0);
+    expect("its result", result[0] == 0xa5 && result[size - 1] == 0xa5, 1);
+}
+
 /* A part of length 0 may be NULL, and is refused or not as any other of that length. */
 static void expect_null(size_t size)
 {
     expect("check of NULL", pf_check(NULL, 0).number, 1);
     expect("count of NULL", pf_count(NULL, 0).number, 1);
     expect("show of NULL", pf_show(NULL, 0, 0).number, 1);
+    expect("sort of NULL", pf_sort(NULL, 0, NULL, 0, NULL, 0).number, 1);
     expect("fold of NULL", pf_fold(NULL, 0, 0, NULL, 0, NULL, 0, NULL, 0).number, 1);
     expect("fold, result NULL", pf_fold(file, size, 0, NULL, 0, work, sizeof work, clocks, PF_FOLD_CLOCKS).number, 15);
     expect("fold, work NULL", pf_fold(file, size, 0, result, sizeof result, NULL, 0, clocks, PF_FOLD_CLOCKS).number, 15);
@@ -71,7 +124,7 @@ int main(int count, char **words)
     size_t size = fread(file, 1, sizeof file, from);
     fclose(from);
 
-    expect("version", PF_VERSION, 1);
+    expect("version", PF_VERSION, 2);
     expect("a file of 1 row", PF_FILE_SIZE(1), PF_BLOCK_SIZE);
     expect("a file of 63 rows", PF_FILE_SIZE(PF_BLOCK_ROWS), PF_BLOCK_SIZE);
     expect("a file of 64 rows", PF_FILE_SIZE(PF_BLOCK_ROWS + 1), 2 * PF_BLOCK_SIZE);
@@ -87,5 +140,6 @@ int main(int count, char **words)
     expect("show", pf_show(file, size, 0).size, PF_BLOCK_ROWS * 8);
     expect_fold(size);
     expect_null(size);
+    expect_sort(size);
     return wrong;
 }

@@ -9,12 +9,12 @@ use native.Mathlib.Decide.{decLt}
 use lib.ListN.{length, length-append, List·getD-append, List·getD-eq-default}
 use lib.Seq.{getD-at}
 use Rattle.memory.proofs.TestLaws.{cond-case, last-or}
-use Rattle.netlist.specs.Rows.{Row, constant, input, register, andGate, xorGate, muxGate, output, rowAt, mapLiterals}
+use Rattle.netlist.specs.Rows.{Row, constant, input, register, andGate, xorGate, muxGate, output, rowAt, mapLiterals, faninNodes}
 use Rattle.netlist.specs.Simulation.{boolLogic, literalValue, rowValue, resetValue, nextValue, runValue}
 use Rattle.netlist.proofs.RowLaws.{RowIn}
 use Rattle.netlist.specs.WellFormed.{OperandsBelow, Ordered}
 use Rattle.netlist.proofs.SimulationLaws.{held, value-at}
-use Rattle.abstraction.specs.Compaction.{faninNodes, isMarked, newIndex, renumberLiteral, compactUpTo}
+use Rattle.abstraction.specs.Compaction.{isMarked, newIndex, renumberLiteral, compactUpTo}
 
 -- A row with its literals renumbered.
 abbrev pub renumbered : List Bool → Row → Row

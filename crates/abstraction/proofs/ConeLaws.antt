@@ -12,11 +12,11 @@ use lib.Seq.{getD-set-same, getD-set-other}
 use borrow.Author.Tests.{eqb-true, eq-eqb}
 use lib.Dec.{eqb}
 use Rattle.memory.proofs.TestLaws.{cond-case, or-case, last-or}
-use Rattle.memory.specs.Lists.{countIf}
+use Rattle.memory.specs.Lists.{countIf, Among, here, there}
 use Rattle.memory.proofs.ListLaws.{count-le}
-use Rattle.netlist.specs.Rows.{Row, rowAt, kindOf, isOutput}
+use Rattle.netlist.specs.Rows.{Row, rowAt, kindOf, isOutput, faninNodes}
 use Rattle.netlist.specs.WellFormed.{EachBelow}
-use Rattle.abstraction.specs.Compaction.{faninNodes, isConeRoot, isMarked, markAll, equalMarks, markSweep, markFixpoint, coneOfInfluence, Among, here, there, Reached, row-zero, shown, named}
+use Rattle.abstraction.specs.Compaction.{isConeRoot, isMarked, markAll, equalMarks, markSweep, markFixpoint, coneOfInfluence, Reached, row-zero, shown, named}
 use Rattle.abstraction.proofs.CompactionLaws.{AllMarked, ClosedUnderFanin, marked-lt}
 
 -- Every mark of m is one of m′.

@@ -11,7 +11,7 @@ use Rattle.memory.specs.Lists.{countIf}
 use Rattle.ternary.specs.Ternary.{Ternary}
 use Rattle.netlist.specs.Limits.{mostPhases, mostFoldedRows}
 use Rattle.netlist.specs.Rows.{Row, rowAt, labelOf, hasName, isRegister}
-use Rattle.netlist.specs.WellFormed.{FoldableRows}
+use Rattle.netlist.specs.WellFormed.{FoldableRows, FileShape}
 use Rattle.lasso.specs.LassoSearch.{Lasso, findLasso}
 use Rattle.lasso.specs.Generators.{periodsOf, phaseCount, clockValue}
 use Rattle.lasso.proofs.LassoLaws.{lasso-is}
@@ -21,12 +21,12 @@ use Rattle.lasso.proofs.ClockLaws.{entries-words, entries-count, used-le}
 use Rattle.abstraction.specs.Compaction.{compact}
 use Rattle.abstraction.specs.Fold.{foldWith, FoldAnswer, foldFromLasso, foldNetlist, AnswerWords}
 use Rattle.abstraction.specs.SameBehaviour.{SameBehaviour, StandsFor}
-use Rattle.abstraction.proofs.ResultShape.{ResultShape, result-shape}
+use Rattle.abstraction.proofs.ResultShape.{result-shape}
 use Rattle.abstraction.proofs.FoldedRun.{origin}
 use Rattle.abstraction.proofs.SizeBound.{fold-fits}
 use Rattle.abstraction.proofs.DemandThree.{fold-stands, fold-behaves}
 
-fold-shape : (clock : ℕ → ℕ → Ternary) (rows : List Row) → FoldableRows rows → (N : ℕ) → 0 < N → ResultShape N (foldWith clock rows N)
+fold-shape : (clock : ℕ → ℕ → Ternary) (rows : List Row) → FoldableRows rows → (N : ℕ) → 0 < N → FileShape N (foldWith clock rows N)
 unfolding foldWith compact
 fold-shape clock rows ok zero h = absurd (omega arith)
 fold-shape clock rows ok (suc M) h = result-shape rows ok clock M
@@ -42,7 +42,7 @@ pub record AnswerRight (rows : List Row) (wish : ℕ) (answer : FoldAnswer) : Ty
   pub phases-le : answer .phases ≤ mostPhases
   pub rows-le : length (answer .rows) ≤ mostFoldedRows
   pub clocks-le : length (answer .clocks) ≤ countIf isRegister rows
-  pub shape : ResultShape (answer .phases) (answer .rows)
+  pub shape : FileShape (answer .phases) (answer .rows)
   pub origins : (y : ℕ) → y < length (answer .rows) → hasName (rowAt (answer .rows) y) ≡ true → (x : ℕ) × (x < length rows) × (labelOf (rowAt (answer .rows) y) ≡ labelOf (rowAt rows x))
   pub stands : StandsFor rows (answer .phases) (answer .rows)
   pub behaves : SameBehaviour rows (answer .phases) (answer .rows)

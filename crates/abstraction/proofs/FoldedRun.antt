@@ -10,13 +10,13 @@ use lib.Dec.{eqb}
 use lib.ListN.{length, getD}
 use Rattle.ternary.specs.Ternary.{Ternary}
 use Rattle.ternary.proofs.RuleLaws.{Covers}
-use Rattle.netlist.specs.Rows.{Row, constant, input, register, andGate, xorGate, muxGate, output, encodeRow, rowAt, kindOf, nameOf, labelOf, phaseOf, hasName, isRegister, isOutput, onRegister, onOutput, mapLiterals}
+use Rattle.netlist.specs.Rows.{Row, constant, input, register, andGate, xorGate, muxGate, output, encodeRow, rowAt, kindOf, nameOf, labelOf, phaseOf, hasName, isRegister, isOutput, onRegister, onOutput, mapLiterals, faninNodes}
 use Rattle.netlist.specs.Simulation.{boolLogic, valueAt, runState, runValue}
 use Rattle.netlist.proofs.RowLaws.{named-alike, RowIn, next-wider}
 use Rattle.netlist.specs.WellFormed.{SameName, OperandsBelow, Ordered, NextBelow, WellFormed, EachBelow}
 use Rattle.netlist.proofs.SimulationLaws.{held, state-at}
 use Rattle.abstraction.specs.Unrolling.{imageLiteral, patchNext, unrollPhases, unrolledNetlist}
-use Rattle.abstraction.specs.Compaction.{faninNodes, isConeRoot, isMarked, coneOfInfluence, newIndex, renumberLiteral}
+use Rattle.abstraction.specs.Compaction.{isConeRoot, isMarked, coneOfInfluence, newIndex, renumberLiteral}
 use Rattle.abstraction.proofs.BuilderLaws.{image-below}
 use Rattle.abstraction.proofs.UnrollLaws.{unroll-formed}
 use Rattle.abstraction.proofs.UnrolledRun.{whole-front, whole-back, whole-has, ordered-whole, length-whole, held-at, output-value}

@@ -13,15 +13,11 @@ use Rattle.memory.proofs.TestLaws.{last-or}
 use Rattle.ternary.specs.Ternary.{Ternary}
 use Rattle.netlist.specs.Rows.{Row, constant, input, register, andGate, xorGate, muxGate, output, rowAt, kindOf, labelOf, phaseOf, hasName, isRegister, isOutput}
 use Rattle.netlist.proofs.RowLaws.{named-alike, each-append, each-one}
-use Rattle.netlist.specs.WellFormed.{SameName, EachRow, FoldableRows}
+use Rattle.netlist.specs.WellFormed.{SameName, NamesDistinct, EachRow, FoldableRows}
 use Rattle.abstraction.specs.GateMaking.{Image}
 use Rattle.abstraction.specs.Unrolling.{phaseOutput, unrollPhases, phaseOutputs}
 use Rattle.abstraction.proofs.BuilderLaws.{ImageOver, Added, none, one}
 use Rattle.abstraction.proofs.UnrollLaws.{unroll-keeps}
-
--- No two rows of the list have one kind, label and phase.
-abbrev pub NamesDistinct : List Row → Type 0
-NamesDistinct xs = (i j : ℕ) → i < j → j < length xs → hasName (rowAt xs i) ≡ true → SameName (rowAt xs i) (rowAt xs j) → ⊥
 
 pub distinct-append : (xs ys : List Row) → NamesDistinct xs → NamesDistinct ys → ((i j : ℕ) → i < length xs → j < length ys → hasName (rowAt xs i) ≡ true → SameName (rowAt xs i) (rowAt ys j) → ⊥) → NamesDistinct (xs ++ ys)
 distinct-append xs ys d e f i j l h =

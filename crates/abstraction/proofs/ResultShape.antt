@@ -11,28 +11,17 @@ use lib.Dec.{eqb}
 use lib.ListN.{length, length-map, List·getD-map}
 use Rattle.memory.specs.Lists.{joinBelow}
 use Rattle.ternary.specs.Ternary.{Ternary}
-use Rattle.netlist.specs.Rows.{Row, constant, input, register, andGate, xorGate, muxGate, output, encodeRow, rowAt, kindOf, phaseOf, hasName, isOutput, onRegister, onOutput}
+use Rattle.netlist.specs.Rows.{Row, constant, input, register, andGate, xorGate, muxGate, output, encodeRow, rowAt, kindOf, phaseOf, hasName, isOutput, onRegister, onOutput, faninNodes}
 use Rattle.netlist.proofs.RowLaws.{named-alike, unnamed}
-use Rattle.netlist.specs.WellFormed.{SameName, OperandsBelow, NextBelow, ResetIn, NamesNode, OnLiterals, FoldableRows}
+use Rattle.netlist.specs.WellFormed.{SameName, NamesDistinct, FileShape, OperandsBelow, NextBelow, ResetIn, NamesNode, OnLiterals, FoldableRows}
 use Rattle.abstraction.specs.Unrolling.{patchNext, phaseOutputs, unrolledNetlist}
-use Rattle.abstraction.specs.Compaction.{faninNodes, isConeRoot, isMarked, newIndex, renumberLiteral, Reached}
+use Rattle.abstraction.specs.Compaction.{isConeRoot, isMarked, newIndex, renumberLiteral, Reached}
 use Rattle.abstraction.proofs.UnrollLaws.{unroll-formed, unroll-grows}
 use Rattle.abstraction.proofs.UnrolledRun.{outputs-each, whole-front, whole-back, length-whole}
-use Rattle.abstraction.proofs.Provenance.{NamesDistinct, distinct-append, unroll-named, unroll-nodes, outputs-named}
+use Rattle.abstraction.proofs.Provenance.{distinct-append, unroll-named, unroll-nodes, outputs-named}
 use Rattle.abstraction.proofs.CompactionLaws.{renumbered, AllMarked, index-mono, kept-ordered}
 use Rattle.abstraction.proofs.ConeLaws.{cone-length, cone-root, cone-exact}
 use Rattle.abstraction.proofs.FoldedRun.{Alike, patch-alike, map-alike, whole, made, last, cone, folded, ordered, closed, whole-next, whole-fanin, folded-at, folded-lt, folded-from, folded-is, folded-alike, origin, output-kept}
-
-pub record ResultShape (N : ℕ) (rows : List Row) : Type 0 where
-  pub some-row : 0 < length rows
-  pub constant-first : rowAt rows 0 ≡ constant
-  pub solid : (y : ℕ) → 0 < y → y < length rows → 0 < kindOf (rowAt rows y)
-  pub nodes-first : (y : ℕ) → y < length rows → isOutput (rowAt rows y) ≡ false → (x : ℕ) → x < y → isOutput (rowAt rows x) ≡ false
-  pub some-output : (y : ℕ) × (y < length rows) × (isOutput (rowAt rows y) ≡ true)
-  pub phases : (y : ℕ) → y < length rows → phaseOf (rowAt rows y) < N
-  pub resets : (y : ℕ) → y < length rows → ResetIn (rowAt rows y)
-  pub distinct : NamesDistinct rows
-  pub literals : (y : ℕ) → y < length rows → OnLiterals (λ l. l / 2 < y) (NamesNode rows) (rowAt rows y)
 
 -- A reset is in range if it is that of a row whose reset is.
 reset-alike : (r s : Row) → kindOf r ≡ kindOf s → encodeRow r .reset ≡ encodeRow s .reset → ResetIn s → ResetIn r
@@ -235,7 +224,7 @@ module _ (rows : List Row) (ok : FoldableRows rows) (clock : ℕ → ℕ → Ter
       let o = kept-ordered unrolled marks (cone-length unrolled) (ordered clock rows M) (closed clock rows M) y h in
       rw e (literals-of y (rowAt unrolled (k .source)) (whole-names (k .source) (k .below)) (closed clock rows M (k .source) (k .below) (k .mark)) (subst (OperandsBelow y) e o))
 
-  pub result-shape : ResultShape N new
+  pub result-shape : FileShape N new
   result-shape =
       let x = ok .checked .has-output in
       let o = output-kept clock rows M (x .0) (x .1) (x .2) (x .3) 0 (omega arith) (x .4) (x .5) in

@@ -7,12 +7,8 @@ use mathlib.Core.Bool.{Bool, true, false, cond, _||_}
 use mathlib.Core.List.{List, [], _∷_, map}
 use lib.ListN.{length, getD, set}
 use lib.Dec.{eqb}
-use Rattle.memory.specs.Lists.{joinBelow}
-use Rattle.netlist.specs.Rows.{Row, rowAt, kindOf, isOutput, literalsOf, mapLiterals}
-
--- The nodes that a row names, through operands and next values.
-abbrev pub faninNodes : Row → List ℕ
-faninNodes r = map (λ (l : ℕ). l / 2) (literalsOf r)
+use Rattle.memory.specs.Lists.{joinBelow, Among}
+use Rattle.netlist.specs.Rows.{Row, rowAt, kindOf, isOutput, mapLiterals, faninNodes}
 
 -- The constant, row 0, and the outputs.
 abbrev pub isConeRoot : Row → Bool
@@ -64,11 +60,6 @@ unfoldable pub compact : List Row → List Row
 compact rows = compactUpTo rows (coneOfInfluence rows) (length rows)
 
 -- ---- in the paper's words
-
--- i is in the list.
-pub data Among (i : ℕ) : List ℕ → Type 0 where
-  here : {js : List ℕ} → Among i (i ∷ js)
-  there : {j : ℕ} {js : List ℕ} → Among i js → Among i (j ∷ js)
 
 -- What the outputs, and row 0, reach through operands and next values.
 pub data Reached (rows : List Row) : ℕ → Type 0 where

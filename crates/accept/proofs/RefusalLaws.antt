@@ -13,14 +13,15 @@ use Rattle.memory.proofs.ListLaws.{first-found}
 use Rattle.netlist.specs.Limits.{mostRows}
 use Rattle.netlist.specs.Rows.{Row}
 use Rattle.netlist.specs.FileFormat.{blockCount, fieldsOf, netlistOf}
-use Rattle.questions.specs.Questions.{Refusal, Counts, countsOf, noRefusal, firstRefusal, itemQuestions, lengthRight, blockQuestions, rowsRefusal, fileRefusalWith, fileRefusal}
+use Rattle.netlist.specs.WellFormed.{UnorderedRows}
+use Rattle.questions.specs.Questions.{Refusal, Counts, countsOf, noRefusal, firstRefusal, itemQuestions, lengthRight, blockQuestions, namesAnywhere, rowsRefusal, fileRefusalWith, fileRefusal, unorderedRefusal}
 use Rattle.questions.proofs.QuestionLaws.{list-next, list-stop, number-none, items-yes, list-yes}
-use Rattle.blockfile.specs.Ready.{HasRows}
+use Rattle.blockfile.specs.Ready.{HasRows, Ready}
 use Rattle.blockfile.specs.CountCode.{countsIn, EachAtMost}
-use Rattle.blockfile.proofs.ReadyLaws.{rows-by}
+use Rattle.blockfile.proofs.ReadyLaws.{ready-right, rows-by}
 use Rattle.blockfile.proofs.CountLaws.{counts-small, most-more, counts-all}
 use Rattle.blockfile.specs.declared.count.Counts as code
-use Rattle.questions.proofs.AcceptedFiles.{Operand}
+use Rattle.questions.proofs.AcceptedFiles.{Operand, file-right, file-unordered}
 use Rattle.blocks.specs.declared.BlockAnswer.{BlockAnswer}
 use Rattle.blocks.specs.BlockCode.{blockNumber}
 use Rattle.accept.specs.declared.FileRefusal.{FileRefusal}
@@ -29,7 +30,7 @@ use Rattle.accept.specs.declared.Acceptance.{Acceptance}
 use Rattle.accept.specs.declared.Acceptance.the-variants.{Accepted, Refused}
 use Rattle.accept.specs.declared.PartAnswer.{PartAnswer}
 use Rattle.accept.specs.declared.PartAnswer.the-variants as part
-use Rattle.accept.specs.Refusals.{numberOf, refusalIn, acceptRefusal, Answered}
+use Rattle.accept.specs.Refusals.{numberOf, refusalIn, acceptRefusal, Answered, CheckedUnordered}
 use Rattle.accept.specs.Parts.{partRefusal, refusalAt, blockAsked, blocksRefusal}
 
 pub number-positive : (x : FileRefusal) → 0 < numberOf x
@@ -171,3 +172,9 @@ module _ (file : List ℕ) (a : Acceptance) (A : Answered (fileRefusal file) (ne
 
     pub accepted-few : EachAtMost (countsIn c) mostRows
     accepted-few = most-more (countsIn c) n mostRows (accepted-rows .few) (counts-small (netlistOf file) n (countsIn c) (accepted-counts ∙ sym (counts-all (netlistOf file) n (A .count n c e))))
+
+-- The same of a file whose gates may stand in any order: it is ready.
+pub unordered-ready : (file : List ℕ) (a : Acceptance) → CheckedUnordered file a → (n : ℕ) (c : code.Counts) → a ≡ Accepted n c → Ready UnorderedRows file n
+unordered-ready file a A n c e =
+    let F = file-right namesAnywhere file (number-none (unorderedRefusal file) (sym (A .refusal) ∙ ap acceptRefusal e)) in
+    ready-right namesAnywhere UnorderedRows file F (file-unordered file F) n (A .count n c e)

@@ -1,5 +1,5 @@
 -- The answers as the scope paper's refusals, number and place, and what an acceptance says.
--- Interface: acceptRefusal, Answered, Checked.
+-- Interface: acceptRefusal, Answered, Checked, CheckedUnordered.
 -- Assumes nothing.
 use Prim.Native.Nat.{ℕ}
 use mathlib.Core.Path.{_≡_}
@@ -7,7 +7,7 @@ use mathlib.Core.List.{List}
 use lib.ListN.{length}
 use Rattle.netlist.specs.Rows.{Row}
 use Rattle.netlist.specs.FileFormat.{netlistOf}
-use Rattle.questions.specs.Questions.{Refusal, noRefusal, fileRefusal, countsOf}
+use Rattle.questions.specs.Questions.{Refusal, noRefusal, fileRefusal, unorderedRefusal, countsOf}
 use Rattle.blockfile.specs.CountCode.{countsIn}
 use Rattle.blockfile.specs.declared.count.Counts as code
 use Rattle.accept.specs.declared.FileRefusal.{FileRefusal}
@@ -57,3 +57,7 @@ pub record Answered (q : Refusal) (rows : List Row) (answer : Acceptance) : Type
 -- The entire outcome of Check, for all files.
 abbrev pub Checked : List ℕ → Acceptance → Type 0
 Checked file answer = Answered (fileRefusal file) (netlistOf file) answer
+
+-- The same where gates may stand in any order.
+abbrev pub CheckedUnordered : List ℕ → Acceptance → Type 0
+CheckedUnordered file answer = Answered (unorderedRefusal file) (netlistOf file) answer

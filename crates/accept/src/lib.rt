@@ -4,12 +4,12 @@ ghost use Prim.Native.Nat.{_*_, _<_, _≤_};
 ghost use lib.ListN.{length};
 ghost use Rattle.netlist.specs.Limits.{mostBlocks};
 ghost use Rattle.netlist.specs.FileFormat.{readFields, fieldsOf, netlistOf};
-ghost use Rattle.questions.specs.Questions.{lengthRight, namesEarlier, rowsRefusal};
+ghost use Rattle.questions.specs.Questions.{lengthRight, rowsRefusal, fileRefusalWith};
 ghost use Rattle.blocks.specs.BlockCode.{blockNumber};
 ghost use Rattle.blockfile.specs.Ready.{HasRows};
-ghost use Rattle.row_questions.specs.RowTested.{TestsOf};
+ghost use Rattle.row_questions.specs.RowTested.{operandBy, TestsOf};
 ghost use Rattle.name_marks.specs.Marks.{markBytes, NamesMarked};
-ghost use Rattle.accept.specs.Refusals.{numberOf, placeOf, Answered, Checked};
+ghost use Rattle.accept.specs.Refusals.{numberOf, placeOf, Answered, Checked, CheckedUnordered};
 ghost use Rattle.accept.specs.Parts.{partRefusal, refusalAt, blocksRefusal, BlocksRight, RowAnswered};
 use blockfile::BLOCK_ROWS;
 use blockfile::both;
@@ -127,12 +127,19 @@ fn check_blocks(file: &[u8], blocks: usize) -> PartAnswer
 
 // ---- questions 6 to 10
 
-// Questions 6 to 9 of a row, from its tests; where they are answered with yes, its name is marked.
-fn check_row(file: &[u8], row: usize, tests: RowTests, few: bool, marks: &mut [u8]) -> PartAnswer
+// Questions 6 to 9 of a row, from its tests; where they are answered with yes, its name is marked. `unordered` says only by which rule of 9 the tests were made.
+fn check_row(
+    file: &[u8],
+    row: usize,
+    unordered: bool,
+    tests: RowTests,
+    few: bool,
+    marks: &mut [u8],
+) -> PartAnswer
     requires { ⌜ HasRows (now file) (length (netlistOf (now file))) × (row < length (netlistOf (now file))) ⌝ }
-    requires { ⌜ TestsOf namesEarlier (netlistOf (now file)) row (readFields (now file) row) tests ⌝ }
+    requires { ⌜ TestsOf (operandBy unordered) (netlistOf (now file)) row (readFields (now file) row) tests ⌝ }
     requires { ⌜ NamesMarked few (netlistOf (now file)) row (now marks) ⌝ }
-    ensures { λ r. ⌜ RowAnswered namesEarlier (now (file .entry)) row few r (now (marks .exit)) ⌝ }
+    ensures { λ r. ⌜ RowAnswered (operandBy unordered) (now (file .entry)) row few r (now (marks .exit)) ⌝ }
 {
     let place = row as u32;
     if !tests.kind {
@@ -153,17 +160,23 @@ fn check_row(file: &[u8], row: usize, tests: RowTests, few: bool, marks: &mut [u
 }
 
 // Questions 6 to 9 row by row, then 10. The rows are counted on the way, in one number.
-fn check_each_row(file: &[u8], rows: usize, few: bool, marks: &mut [u8]) -> Acceptance
+fn check_each_row(
+    file: &[u8],
+    rows: usize,
+    unordered: bool,
+    few: bool,
+    marks: &mut [u8],
+) -> Acceptance
     requires { ⌜ HasRows (now file) rows × (length (now marks) ≡ markBytes few) ⌝ }
-    ensures { λ r. ⌜ Answered (rowsRefusal namesEarlier (fieldsOf (now (file .entry)))) (netlistOf (now (file .entry))) r ⌝ }
+    ensures { λ r. ⌜ Answered (rowsRefusal (operandBy unordered) (fieldsOf (now (file .entry)))) (netlistOf (now (file .entry))) r ⌝ }
 {
     let mut tally = 0;
     let mut row = 0;
     'each: while row < rows {
         let fields = blockfile::read_row(file, row);
-        let tests = row_questions::test_row(file, rows, row, tally, fields);
+        let tests = row_questions::test_row(file, rows, row, unordered, tally, fields);
         let added = tests.tally;
-        match check_row(file, row, tests, few, &mut *marks) {
+        match check_row(file, row, unordered, tests, few, &mut *marks) {
             PartAnswer::Passed => {}
             PartAnswer::Refused(refusal) => return Acceptance::Refused(refusal),
         }
@@ -182,32 +195,32 @@ fn check_each_row(file: &[u8], rows: usize, few: bool, marks: &mut [u8]) -> Acce
 }
 
 // With few bits.
-fn check_few_rows(file: &[u8], rows: usize) -> Acceptance
+fn check_few_rows(file: &[u8], rows: usize, unordered: bool) -> Acceptance
     requires { ⌜ HasRows (now file) rows ⌝ }
-    ensures { λ r. ⌜ Answered (rowsRefusal namesEarlier (fieldsOf (now (file .entry)))) (netlistOf (now (file .entry))) r ⌝ }
+    ensures { λ r. ⌜ Answered (rowsRefusal (operandBy unordered) (fieldsOf (now (file .entry)))) (netlistOf (now (file .entry))) r ⌝ }
 {
     let mut marks = [0u8; name_marks::FEW_MARK_BYTES];
-    check_each_row(file, rows, true, &mut marks)
+    check_each_row(file, rows, unordered, true, &mut marks)
 }
 
 // With a bit for each slot.
-fn check_many_rows(file: &[u8], rows: usize) -> Acceptance
+fn check_many_rows(file: &[u8], rows: usize, unordered: bool) -> Acceptance
     requires { ⌜ HasRows (now file) rows ⌝ }
-    ensures { λ r. ⌜ Answered (rowsRefusal namesEarlier (fieldsOf (now (file .entry)))) (netlistOf (now (file .entry))) r ⌝ }
+    ensures { λ r. ⌜ Answered (rowsRefusal (operandBy unordered) (fieldsOf (now (file .entry)))) (netlistOf (now (file .entry))) r ⌝ }
 {
     let mut marks = [0u8; name_marks::MARK_BYTES];
-    check_each_row(file, rows, false, &mut marks)
+    check_each_row(file, rows, unordered, false, &mut marks)
 }
 
 // Questions 6 to 10 of all rows.
-fn check_rows(file: &[u8], rows: usize) -> Acceptance
+fn check_rows(file: &[u8], rows: usize, unordered: bool) -> Acceptance
     requires { ⌜ HasRows (now file) rows ⌝ }
-    ensures { λ r. ⌜ Answered (rowsRefusal namesEarlier (fieldsOf (now (file .entry)))) (netlistOf (now (file .entry))) r ⌝ }
+    ensures { λ r. ⌜ Answered (rowsRefusal (operandBy unordered) (fieldsOf (now (file .entry)))) (netlistOf (now (file .entry))) r ⌝ }
 {
     if rows <= BLOCK_ROWS {
-        check_few_rows(file, rows)
+        check_few_rows(file, rows, unordered)
     } else {
-        check_many_rows(file, rows)
+        check_many_rows(file, rows, unordered)
     }
 }
 
@@ -224,8 +237,9 @@ fn count_rows(file: &[u8]) -> usize
     63 * last + rest
 }
 
-pub fn accept(file: &[u8]) -> Acceptance
-    ensures { λ r. ⌜ Checked (now (file .entry)) r ⌝ }
+// Gates may stand in any order if `unordered`.
+fn accept_by(file: &[u8], unordered: bool) -> Acceptance
+    ensures { λ r. ⌜ Answered (fileRefusalWith (operandBy unordered) (now (file .entry))) (netlistOf (now (file .entry))) r ⌝ }
 {
     if !length_right(file) {
         return Acceptance::Refused(FileRefusal::Length);
@@ -235,7 +249,20 @@ pub fn accept(file: &[u8]) -> Acceptance
         PartAnswer::Refused(refusal) => Acceptance::Refused(refusal),
         PartAnswer::Passed => {
             let rows = count_rows(file);
-            check_rows(file, rows)
+            check_rows(file, rows, unordered)
         }
     }
+}
+
+pub fn accept(file: &[u8]) -> Acceptance
+    ensures { λ r. ⌜ Checked (now (file .entry)) r ⌝ }
+{
+    accept_by(file, false)
+}
+
+// The same of a file whose gates may stand in any order.
+pub fn accept_unordered(file: &[u8]) -> Acceptance
+    ensures { λ r. ⌜ CheckedUnordered (now (file .entry)) r ⌝ }
+{
+    accept_by(file, true)
 }

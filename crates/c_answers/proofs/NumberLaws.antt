@@ -7,10 +7,11 @@ use Rattle.fold_refusals.specs.FoldRefusals.{foldRefusalIn}
 use Rattle.fold_refusals.specs.declared.FoldRefusal.{FoldRefusal}
 use Rattle.fold_core.specs.declared.Folding.{Folding}
 use Rattle.fold_core.specs.declared.Folding.the-variants.{Refused}
-use Rattle.c_answers.specs.AnswerNumbers.{refusalNumbers, refusedCounts, foldedNumbers}
+use Rattle.c_answers.specs.AnswerNumbers.{refusalNumbers, refusedCounts, foldedNumbers, writtenNumbers}
 use Rattle.c_answers.specs.declared.PfRefusal.{PfRefusal}
 use Rattle.c_answers.specs.declared.PfCounts.{PfCounts}
 use Rattle.c_answers.specs.declared.PfFolded.{PfFolded}
+use Rattle.c_answers.specs.declared.PfWritten.{PfWritten}
 
 pub numbers-by : (q : Refusal) (n p : ℕ) (r : PfRefusal) → r ≡ record { number = n; place = p } → n ≡ q .number → p ≡ q .place → r ≡ refusalNumbers q
 numbers-by q n p r e en ep = rw (e, en, ep) refl
@@ -21,3 +22,6 @@ counts-refused q r h = rw h refl
 pub fold-refused : (a : Folding) (q : FoldRefusal) (r : PfRefusal) → a ≡ Refused q → r ≡ refusalNumbers (foldRefusalIn q)
     → _≡_ {A = PfFolded} (record { number = r .number; place = r .place; stem = 0; cycle = 0; phases = 0; used = 0; before = 0; after = 0 }) (foldedNumbers a)
 fold-refused a q r e h = rw (h, e) refl
+
+pub written-by : (q : Refusal) (n p m : ℕ) → n ≡ q .number → p ≡ q .place → _≡_ {A = PfWritten} (record { number = n; place = p; rows = m }) (writtenNumbers q m)
+written-by q n p m en ep = rw (en, ep) refl

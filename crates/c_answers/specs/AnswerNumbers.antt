@@ -1,12 +1,14 @@
 -- The answers that C callers get, as numbers: those of the scope paper, "Questions, in order" and "Operations and lent memory".
--- Interface: refusalNumbers, acceptedCounts, refusedCounts, foldedNumbers.
+-- Interface: refusalNumbers, acceptedCounts, refusedCounts, foldedNumbers, writtenNumbers.
 -- Assumes nothing.
+use Prim.Native.Nat.{ℕ}
 use Rattle.questions.specs.Questions.{Refusal, Counts}
 use Rattle.fold_core.specs.FoldAnswers.{foldingRefusal, numbersIn}
 use Rattle.fold_core.specs.declared.Folding.{Folding}
 use Rattle.c_answers.specs.declared.PfRefusal.{PfRefusal}
 use Rattle.c_answers.specs.declared.PfCounts.{PfCounts}
 use Rattle.c_answers.specs.declared.PfFolded.{PfFolded}
+use Rattle.c_answers.specs.declared.PfWritten.{PfWritten}
 
 abbrev pub refusalNumbers : Refusal → PfRefusal
 refusalNumbers q = record { number = q .number; place = q .place }
@@ -24,3 +26,7 @@ foldedNumbers a =
     let q = foldingRefusal a in
     let n = numbersIn a in
     record { number = q .number; place = q .place; stem = n .stem; cycle = n .cycle; phases = n .phases; used = n .used; before = n .before; after = n .after }
+
+-- The refusal, and the rows of the file that was written.
+abbrev pub writtenNumbers : Refusal → ℕ → PfWritten
+writtenNumbers q n = record { number = q .number; place = q .place; rows = n }

@@ -2,17 +2,20 @@
 ghost use mathlib.Core.Path.{_≡_};
 ghost use Prim.Native.Nat.{_<_};
 ghost use Rattle.netlist.specs.Limits.{mostBlocks, mostRows};
+ghost use Rattle.questions.specs.Questions.{noRefusal};
 ghost use Rattle.blockfile.specs.CountCode.{countsIn, EachAtMost};
 ghost use Rattle.accept.specs.Refusals.{refusalIn};
 ghost use Rattle.run.specs.RunAnswers.{runRefusalIn};
 ghost use Rattle.fold_refusals.specs.FoldRefusals.{foldRefusalIn};
 ghost use Rattle.show.specs.ShowOutcome.{partOffset};
-ghost use Rattle.c_answers.specs.AnswerNumbers.{refusalNumbers, acceptedCounts, refusedCounts, foldedNumbers};
+ghost use Rattle.sort.specs.SortAnswers.{sortRefusalIn};
+ghost use Rattle.c_answers.specs.AnswerNumbers.{refusalNumbers, acceptedCounts, refusedCounts, foldedNumbers, writtenNumbers};
 use accept::FileRefusal;
 use blockfile::count::Counts;
 use fold_core::FoldRefusal;
 use fold_core::Folding;
 use run::RunRefusal;
+use sort::SortRefusal;
 
 #[repr(C)]
 pub struct PfRefusal {
@@ -150,5 +153,36 @@ pub fn folded_numbers(answer: Folding) -> PfFolded
                 after: 0,
             }
         }
+    }
+}
+
+// What writes a file answers how many rows that has.
+#[repr(C)]
+pub struct PfWritten {
+    pub number: u32,
+    pub place: u32,
+    pub rows: u32,
+}
+
+pub fn written(rows: u32) -> PfWritten
+    ensures { λ r. ⌜ r ≡ writtenNumbers noRefusal rows ⌝ }
+{
+    PfWritten {
+        number: 0,
+        place: 0,
+        rows: rows,
+    }
+}
+
+// A refused Sort.
+pub fn unsorted(refusal: SortRefusal) -> PfWritten
+    ensures { λ r. ⌜ r ≡ writtenNumbers (sortRefusalIn refusal) 0 ⌝ }
+{
+    let number = sort::number_of(refusal);
+    let place = sort::place_of(refusal);
+    PfWritten {
+        number: number,
+        place: place,
+        rows: 0,
     }
 }

@@ -3,9 +3,8 @@
 use Prim.Native.Nat.{ℕ, _<_}
 use mathlib.Core.List.{List}
 use lib.ListN.{length}
-use Rattle.netlist.specs.Rows.{Row, encodeRow, rowAt}
+use Rattle.netlist.specs.Rows.{Row, encodeRow, rowAt, faninNodes}
 use Rattle.netlist.specs.WellFormed.{FieldsFit, EachRow, EachBelow}
-use Rattle.abstraction.specs.Compaction.{faninNodes}
 
 -- Each field has 16 bits, and each row names rows of the netlist.
 pub record Compactable (rs : List Row) : Type 0 where

@@ -10,8 +10,8 @@ use lib.Seq.{ext-getD, getD-set-same, getD-set-other}
 use Rattle.memory.specs.Slots.{slotAt}
 use Rattle.memory.proofs.TestLaws.{last-or, fails}
 use Rattle.memory.proofs.ListLaws.{tabulate-length, tabulate-at}
-use Rattle.netlist.specs.Rows.{Row, constant, rowAt}
-use Rattle.abstraction.specs.Compaction.{faninNodes, isConeRoot, isMarked, markAll, coneOfInfluence}
+use Rattle.netlist.specs.Rows.{Row, constant, rowAt, faninNodes}
+use Rattle.abstraction.specs.Compaction.{isConeRoot, isMarked, markAll, coneOfInfluence}
 use Rattle.abstraction.proofs.CompactionLaws.{AllMarked, ClosedUnderFanin, marked-lt}
 use Rattle.abstraction.proofs.ConeLaws.{MarksWithin, markAll-keeps, markAll-marks, all-keep, markAll-within, cone-length, cone-closed, cone-root, cone-least}
 use Rattle.netlist.specs.WellFormed.{EachBelow}

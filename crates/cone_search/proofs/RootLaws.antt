@@ -9,9 +9,9 @@ use lib.ListN.{take}
 use lib.Dec.{eqb, ltb}
 use borrow.Author.Tests.{eq-eqb, ne-eqb, lt-ltb}
 use Rattle.memory.specs.Fields.{byteAt, u16At}
-use Rattle.netlist.specs.Rows.{RowFields, rowFromFields, decodeRow}
+use Rattle.netlist.specs.Rows.{RowFields, rowFromFields, decodeRow, faninNodes}
 use Rattle.netlist.specs.FileFormat.{rowOffset, readFields}
-use Rattle.abstraction.specs.Compaction.{faninNodes, isConeRoot}
+use Rattle.abstraction.specs.Compaction.{isConeRoot}
 use Rattle.blockfile.specs.RowsStand.{heldRow}
 use Rattle.blockfile.specs.Renumbering.{literalCount}
 use Rattle.blockfile.proofs.KindLaws.{literals-are}

@@ -9,7 +9,8 @@ use lib.Dec.{leb}
 use Rattle.memory.specs.Lists.{tabulate, countIf}
 use Rattle.memory.specs.Slots.{slotAt}
 use Rattle.netlist.specs.WellFormed.{EachBelow}
-use Rattle.abstraction.specs.Compaction.{faninNodes, isConeRoot, markAll}
+use Rattle.netlist.specs.Rows.{faninNodes}
+use Rattle.abstraction.specs.Compaction.{isConeRoot, markAll}
 use Rattle.blockfile.specs.RowsStand.{heldRow}
 
 -- Each of the first n rows of f names rows below n.

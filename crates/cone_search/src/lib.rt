@@ -7,8 +7,8 @@ ghost use Prim.Native.Nat.{ℕ, _+_, _*_, _<_, _≤_, _^_};
 ghost use lib.ListN.{length};
 ghost use Rattle.memory.specs.Slots.{slotAt};
 ghost use Rattle.netlist.specs.Limits.{mostFoldedRows, foldResultBytes};
-ghost use Rattle.netlist.specs.Rows.{rowFromFields, decodeRow};
-ghost use Rattle.abstraction.specs.Compaction.{faninNodes, isConeRoot, coneOfInfluence};
+ghost use Rattle.netlist.specs.Rows.{rowFromFields, decodeRow, faninNodes};
+ghost use Rattle.abstraction.specs.Compaction.{isConeRoot, coneOfInfluence};
 ghost use Rattle.blockfile.specs.RowCode.{fieldsIn};
 ghost use Rattle.blockfile.specs.RowsStand.{heldRow, heldRows};
 ghost use Rattle.cone_search.specs.FoundRows.{

@@ -109,10 +109,7 @@ fn put_head(file: &mut [u8], block: u8, mark: u8, count: u8) {
 }
 
 // Row `row` of a long netlist: by turns input, register, AND and XOR.
-fn long_cells(row: u16) -> Cells {
-    if row == 0 {
-        return Cells(0, 0, 0, 0, 0);
-    }
+fn mixed_cells(row: u16) -> Cells {
     let literal = std::num::wrapping_add_u16(row, row);
     let before = std::num::wrapping_sub_u16(literal, 2);
     match row % 4 {
@@ -123,16 +120,43 @@ fn long_cells(row: u16) -> Cells {
     }
 }
 
-// Nodes up to row `rows`, which is an output of the last of them.
-fn put_long_rows(file: &mut [u8], rows: u16) {
+// A gate of a chain: the inverse of `node` and the input, row 1.
+fn chain_cells(row: u16, node: u16) -> Cells {
+    let literal = std::num::wrapping_add_u16(node, node);
+    let inverse = std::num::wrapping_add_u16(literal, 1);
+    if row == 1 {
+        Cells(1, 0, 5, 6, 0)
+    } else {
+        Cells(3, 0, inverse, 2, 0)
+    }
+}
+
+// The row of that long netlist which the letter says; of a turned chain the last gate, in row `rows` - 1, is the first.
+fn long_cells(letter: u8, row: u16, rows: u16) -> Cells {
+    let before = std::num::wrapping_sub_u16(row, 1);
+    let behind = std::num::wrapping_add_u16(row, 1);
+    let next = if behind == rows { 1 } else { behind };
+    if row == 0 {
+        return Cells(0, 0, 0, 0, 0);
+    }
+    match letter {
+        b'l' => mixed_cells(row),
+        b'f' => chain_cells(row, before),
+        _ => chain_cells(row, next),
+    }
+}
+
+// Nodes up to row `rows`, which is an output of the last of them, or of a turned chain of the first gate.
+fn put_long_rows(file: &mut [u8], letter: u8, rows: u16) {
     let mut row: u16 = 0;
     'rows: while row < rows {
-        let cells = long_cells(row);
+        let cells = long_cells(letter, row, rows);
         put_row(file, row, cells);
         row += 1;
     }
     let last = std::num::wrapping_sub_u16(rows, 1);
-    let literal = std::num::wrapping_add_u16(last, last);
+    let shown = if letter == b't' { 2 } else { last };
+    let literal = std::num::wrapping_add_u16(shown, shown);
     put_row(file, rows, Cells(6, 0, literal, 65535, 7));
 }
 
@@ -146,12 +170,12 @@ fn put_heads(file: &mut [u8], last: u8) {
 }
 
 // A netlist whose last block is number `last`, with `count` rows in it.
-fn put_long(file: &mut [u8], last: u8, count: u8) {
+fn put_long(file: &mut [u8], letter: u8, last: u8, count: u8) {
     let full = 63 * last as u16;
     let rows = full + count as u16;
     let last_row = std::num::wrapping_sub_u16(rows, 1);
     let blocks = std::num::wrapping_add_u8(last, 1);
-    put_long_rows(file, last_row);
+    put_long_rows(file, letter, last_row);
     put_heads(file, last);
     put_head(file, last, LAST, count);
     seal(file, blocks);
@@ -182,7 +206,7 @@ pub fn obey(letter: u8, numbers: &[u32], file: &mut [u8], kept: &mut [u8]) {
         b'b' => put(file, size_at(numbers, 1), byte_at(numbers, 3)),
         b'c' => close(file, byte_at(numbers, 1)),
         b's' => seal(file, byte_at(numbers, 1)),
-        b'l' => put_long(file, byte_at(numbers, 1), byte_at(numbers, 2)),
+        b'l' | b'f' | b't' => put_long(file, letter, byte_at(numbers, 1), byte_at(numbers, 2)),
         b'k' => crate::bytes::copy(kept, file),
         b'a' => crate::bytes::copy(file, kept),
         _ => {}

@@ -1,4 +1,4 @@
-// Check, Count, Show and Run tried on real files, as the script on standard input says: each line of a trial is printed with what is seen.
+// Check, Count, Show, Sort and Run tried on real files, as the script on standard input says: each line of a trial is printed with what is seen.
 ghost use mathlib.Core.Path.{_≡_};
 ghost use lib.ListN.{length};
 use tell::Tally;
@@ -8,6 +8,7 @@ mod bytes;
 mod files;
 mod runs;
 mod script;
+mod sorts;
 mod tell;
 
 // Room for 129 blocks, one more than a file may have.
@@ -82,7 +83,8 @@ fn obey_line(
     script::read_numbers(line, numbers);
     echo(letter, line);
     let tried = obey_file(letter, numbers, file, kept, tally);
-    let ran = obey_run(letter, line, numbers, file, inputs, choices, result, tried);
+    let sorted = sorts::obey(letter, numbers, file, kept, result, tried);
+    let ran = obey_run(letter, line, numbers, file, inputs, choices, result, sorted);
     finish(letter, ran)
 }
 
@@ -115,10 +117,10 @@ fn main() {
     let size = io::read_full(0, &mut input);
     let text = &input[..size];
     let mut files = file_room();
-    let mut kept = list_room();
+    let mut kept = file_room();
     let mut inputs = list_room();
     let mut choices = list_room();
-    let mut results = list_room();
+    let mut results = file_room();
     obey_script(
         text,
         &mut files,

@@ -13,9 +13,9 @@ use text::bytes::put;
 use text::numbers::number_at;
 
 // What result and work hold before a run.
-const RESULT_FILL: u8 = 170;
+pub const RESULT_FILL: u8 = 170;
 
-const WORK_FILL: u8 = 85;
+pub const WORK_FILL: u8 = 85;
 
 // ---- the lists
 
@@ -45,7 +45,7 @@ pub fn obey_lists(letter: u8, numbers: &[u32], inputs: &mut [u8], choices: &mut 
 // ---- Run
 
 // Every byte becomes `value`.
-fn fill(bytes: &mut [u8], value: u8) {
+pub fn fill(bytes: &mut [u8], value: u8) {
     let mut i = 0;
     'filling: while i < bytes.len() {
         bytes[i] = value;
@@ -79,14 +79,18 @@ fn run_lent(
     crate::tell::of_run(answer)
 }
 
-// Whether work is cleared to its end and no further, and the result unchanged after what is written.
+// Whether work is cleared to its end and no further.
+pub fn work_right(work: &[u8], size: usize) -> bool {
+    let cleared = all_from(first(work, size), 0, 0);
+    let rest = all_from(work, size, WORK_FILL);
+    both(cleared, rest)
+}
+
+// Whether work is cleared, and the result unchanged after what is written.
 fn left_right(numbers: &[u32], result: &[u8], work: &[u8]) -> bool {
-    let work_size = size_at(numbers, 6);
     let written = size_at(numbers, 10);
     let kept = all_from(result, written, RESULT_FILL);
-    let cleared = all_from(first(work, work_size), 0, 0);
-    let rest = all_from(work, work_size, WORK_FILL);
-    both(both(kept, cleared), rest)
+    both(kept, work_right(work, size_at(numbers, 6)))
 }
 
 // Run SIZE STEPS CHOICES INPUTS RESULT WORK is NUMBER PLACE WRITTEN

@@ -3,6 +3,7 @@ use accept::Acceptance;
 use accept::FileRefusal;
 use run::RunAnswer;
 use run::RunRefusal;
+use sort::SortRefusal;
 use text::both;
 
 // A refusal's number and place by the scope paper; 0 and 0 for success.
@@ -54,6 +55,14 @@ pub fn of_run(answer: RunAnswer) -> Seen {
     match answer {
         RunAnswer::Done => Seen(0, 0),
         RunAnswer::Refused(refusal) => of_run_refusal(refusal),
+    }
+}
+
+pub fn of_sort_refusal(refusal: SortRefusal) -> Seen {
+    match refusal {
+        SortRefusal::File(file) => of_file(file),
+        SortRefusal::Loop { row } => Seen(22, row),
+        SortRefusal::Memory => Seen(23, 0),
     }
 }
 

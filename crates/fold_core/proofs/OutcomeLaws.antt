@@ -3,29 +3,28 @@
 use Prim.Native.Nat.{ℕ, _*_, _<_}
 use mathlib.Core.Path.{_≡_, refl, sym, ap, _∙_, subst}
 use mathlib.Core.Bool.{true, false, cond}
-use mathlib.Core.List.{List, [], _∷_, _++_}
+use mathlib.Core.List.{List, [], _∷_}
 use mathlib.Core.Option.{Option, none, some}
 use native.Mathlib.Omega.{arith}
-use native.Mathlib.Decide.{decLt}
 use lib.Dec.{eqb}
 use lib.ListN.{length, replicate}
 use lib.Seq.{take-at}
 use borrow.Author.Tests.{ne-eqb}
 use Rattle.memory.specs.Fields.{IsBytes}
 use Rattle.netlist.specs.Rows.{Row}
-use Rattle.netlist.specs.FileFormat.{netlistOf, fileOf, blocksFor}
+use Rattle.netlist.specs.FileFormat.{netlistOf, fileOf, blocksFor, fileLeft}
 use Rattle.netlist.proofs.FileLaws.{file-length}
 use Rattle.lasso.specs.LassoSearch.{Lasso, findLasso}
 use Rattle.abstraction.specs.Fold.{FoldAnswer, foldFromLasso, foldNetlist}
 use Rattle.questions.specs.Questions.{Refusal, noRefusal, firstRefusal, question}
 use Rattle.fold_questions.specs.FoldQuestions.{hasLasso, foldRefusal}
-use Rattle.questions.proofs.QuestionLaws.{list-none, list-next, list-stop}
+use Rattle.questions.proofs.QuestionLaws.{same-number, first-before, first-behind}
 use Rattle.guarantees.specs.FoldGuarantee.{FoldGuarantee}
 use Rattle.guarantees.proofs.FoldPromise.{fold-guarantee}
 use Rattle.ternary_step.proofs.ReadyLaws.{work-ready-of}
 use Rattle.fold_refusals.specs.FoldRefusals.{foldRefusalIn, earlyRefusal, askedRefusal, Questioned}
 use Rattle.fold_core.specs.FoldAnswers.{foldingRefusal, numbersIn, foldAnswered, numbersOf, entriesOf, resultOf}
-use Rattle.fold_core.specs.FoldOutcome.{fileLeft, LeftFolded, CoreFolded}
+use Rattle.fold_core.specs.FoldOutcome.{LeftFolded, CoreFolded}
 use Rattle.fold_core.specs.FoldParts.{FoldReady, foldingOf, FoldMade}
 use Rattle.fold_refusals.specs.declared.asking.Asked.{Asked}
 use Rattle.fold_refusals.specs.declared.asking.Asked.the-variants.{Passed, Stopped}
@@ -34,25 +33,6 @@ use Rattle.fold_core.specs.declared.Folding.{Folding}
 use Rattle.fold_core.specs.declared.Folding.the-variants.{Refused}
 use Rattle.fold_refusals.proofs.EarlyLaws.{fold-number-positive}
 use Rattle.fold_core.proofs.PassedLaws.{earlyAsked, early-memory}
-
-same-number : {q r : Refusal} → q ≡ r → q .number ≡ r .number
-same-number e = ap (λ (x : Refusal). x .number) e
-
--- ---- more questions behind a list of them
-
-first-before : (qs ps : List Refusal) → 0 < firstRefusal qs .number → firstRefusal (qs ++ ps) ≡ firstRefusal qs
-first-before [] ps h = absurd (omega arith)
-first-before (q ∷ qs) ps h = elim (decLt 0 (q .number)) [
-  | yes l ↦ list-stop q (qs ++ ps) l ∙ sym (list-stop q qs l)
-  | no l ↦
-      (let e : q .number ≡ 0 = omega arith in
-      let n = list-next q qs e in
-      list-next q (qs ++ ps) e ∙ first-before qs ps (omega (arith, h, same-number n)) ∙ sym n)
-]
-
-first-behind : (qs ps : List Refusal) → firstRefusal qs .number ≡ 0 → firstRefusal (qs ++ ps) ≡ firstRefusal ps
-first-behind [] ps h = refl
-first-behind (q ∷ qs) ps h = let n = list-none q qs h in list-next q (qs ++ ps) (n .0) ∙ first-behind qs ps (n .1)
 
 -- ---- 16, behind questions 1 to 15
 

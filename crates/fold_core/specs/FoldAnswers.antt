@@ -1,12 +1,10 @@
 -- Fold's answers as the scope paper's numbers and places, and the fold that they are of.
--- Interface: foldingRefusal, numbersIn, usedIn; foldAnswered, numbersOf, entriesOf, fileIn, resultOf.
+-- Interface: foldingRefusal, numbersIn, usedIn; foldAnswered, numbersOf, entriesOf, resultOf.
 -- Assumes nothing.
-use Prim.Native.Nat.{ℕ, _-_}
-use mathlib.Core.List.{List, [], _++_}
+use Prim.Native.Nat.{ℕ}
+use mathlib.Core.List.{List, []}
 use mathlib.Core.Option.{Option, none, some}
-use lib.ListN.{length, replicate}
-use Rattle.netlist.specs.Rows.{Row}
-use Rattle.netlist.specs.FileFormat.{netlistOf, fileOf}
+use Rattle.netlist.specs.FileFormat.{netlistOf, fileIn}
 use Rattle.lasso.specs.ClockEntries.{ClockEntry}
 use Rattle.abstraction.specs.Fold.{FoldAnswer, foldNetlist}
 use Rattle.questions.specs.Questions.{Refusal, noRefusal, unlessRefused}
@@ -45,10 +43,6 @@ numbersOf (some a) = record { stem = a .stem; cycle = a .cycle; phases = a .phas
 abbrev pub entriesOf : Option FoldAnswer → List ClockEntry
 entriesOf none = []
 entriesOf (some a) = a .clocks
-
--- The old result becomes the file of these rows, with zeros to its end.
-abbrev pub fileIn : List Row → List ℕ → List ℕ
-fileIn rows old = fileOf rows ++ replicate (length old - length (fileOf rows)) 0
 
 -- The old result afterwards: the folded netlist's file; unchanged by a refusal.
 abbrev pub resultOf : Option FoldAnswer → List ℕ → List ℕ

@@ -1,12 +1,12 @@
 -- What Fold answers and leaves in the result, for all arguments, and demand 3 between the file given and the file left: the scope paper, "Operations and lent memory" and "What demand 3 compares".
 -- Interface: LeftFolded, FoldDone; CoreFolded adds the packed clock entries.
 -- Assumes nothing.
-use Prim.Native.Nat.{ℕ, _*_, _≤_}
+use Prim.Native.Nat.{ℕ, _≤_}
 use mathlib.Core.Path.{_≡_}
 use mathlib.Core.List.{List}
-use lib.ListN.{length, take}
+use lib.ListN.{length}
 use Rattle.netlist.specs.Limits.{foldClockEntries}
-use Rattle.netlist.specs.FileFormat.{blocksFor, netlistOf}
+use Rattle.netlist.specs.FileFormat.{netlistOf, fileLeft}
 use Rattle.abstraction.specs.SameBehaviour.{SameBehaviour, StandsFor}
 use Rattle.questions.specs.Questions.{noRefusal, fileRefusal}
 use Rattle.fold_questions.specs.FoldQuestions.{foldRefusal}
@@ -14,10 +14,6 @@ use Rattle.guarantees.specs.FoldGuarantee.{FoldGuarantee}
 use Rattle.fold_memory.specs.WorkMap.{entriesIn}
 use Rattle.fold_core.specs.FoldAnswers.{foldingRefusal, numbersIn, usedIn, foldAnswered, numbersOf, entriesOf, resultOf}
 use Rattle.fold_core.specs.declared.Folding.{Folding}
-
--- The file of n rows at the start of a result.
-abbrev pub fileLeft : List ℕ → ℕ → List ℕ
-fileLeft result n = take (512 * blocksFor n) result
 
 -- The file left, of N phases: Check accepts it, and it behaves as the file given does.
 pub record LeftFolded (file : List ℕ) (N : ℕ) (left : List ℕ) : Type 0 where

@@ -9,10 +9,10 @@ use Rattle.memory.specs.Fields.{byteAt}
 use Rattle.ternary.specs.Ternary.{Ternary}
 use Rattle.netlist.specs.Limits.{mostPhases, mostOriginalRows, mostFoldedRows, foldClockEntries, lastState}
 use Rattle.netlist.specs.Rows.{Row}
+use Rattle.netlist.specs.FileFormat.{fileIn}
 use Rattle.abstraction.specs.Fold.{foldWith}
 use Rattle.lasso_finder.specs.declared.Clocks.{Clocks}
 use Rattle.fold_memory.specs.WorkMap.{knownIn, entryOffset}
-use Rattle.fold_core.specs.FoldAnswers.{fileIn}
 use Rattle.fold_core.specs.declared.FoldNumbers.{FoldNumbers}
 
 -- The clock is what the work memory has of the first n rows in N phases.

@@ -20,7 +20,7 @@ use Rattle.fold_questions.proofs.FoldAccepted.{fold-right, rows-foldable}
 use Rattle.questions.specs.RoundTrips.{Writable}
 use Rattle.guarantees.specs.FoldGuarantee.{FoldGuarantee}
 use Rattle.questions.proofs.WriteThenRead.{writable-read, writable-accepted, writable-bytes}
-use Rattle.guarantees.proofs.AcceptedResult.{shape-passes}
+use Rattle.questions.proofs.ShapePasses.{shape-passes}
 
 module _ (rows : List Row) (wish : ℕ) (answer : FoldAnswer) (right : AnswerRight rows wish answer) (labels : (x : ℕ) → x < length rows → labelOf (rowAt rows x) < 2 ^ 16) where
   -- A named row has the label of a row of the original, and the others have label 0.

@@ -1,3 +1,2 @@
 -- The proofs of what is promised.
-pub mod AcceptedResult
 pub mod FoldPromise

@@ -12,12 +12,11 @@ use Rattle.netlist.specs.Limits.{mostRows, mostFileBytes}
 use Rattle.netlist.specs.Rows.{Row, constant, andGate, output, rowAt, kindOf, labelOf, phaseOf, hasName, isOutput}
 use Rattle.netlist.specs.FileFormat.{fileOf}
 use Rattle.netlist.proofs.FileLaws.{file-length}
-use Rattle.netlist.specs.WellFormed.{ResetIn, NamesNode, OnLiterals}
+use Rattle.netlist.specs.WellFormed.{ResetIn, NamesNode, OnLiterals, FileShape}
 use Rattle.questions.specs.Questions.{noRefusal, fileRefusal}
-use Rattle.abstraction.proofs.ResultShape.{ResultShape}
 use Rattle.questions.specs.RoundTrips.{Writable}
 use Rattle.questions.proofs.WriteThenRead.{writable-accepted}
-use Rattle.guarantees.proofs.AcceptedResult.{shape-passes}
+use Rattle.questions.proofs.ShapePasses.{shape-passes}
 
 -- The constant, n gates and an output.
 abbrev gates : ℕ → List Row
@@ -43,7 +42,7 @@ module _ (n : ℕ) where
   each P a b c (suc y) h =
       last-or y n (omega (arith, h, chain-length)) (λ l. rw (gate-at y l) (b y l)) (λ e. rw (e, output-at) c)
 
-  chain-shape : ResultShape 1 (chain n)
+  chain-shape : FileShape 1 (chain n)
   chain-shape = record {
     some-row = omega (arith, chain-length);
     constant-first = refl;

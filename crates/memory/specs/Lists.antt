@@ -1,5 +1,5 @@
 -- Tests, tables and searches over a run of numbers, and counts.
--- Interface: allBelow, joinBelow, tabulate, firstFrom, countIf.
+-- Interface: allBelow, joinBelow, tabulate, firstFrom, countIf, Among.
 -- Assumes nothing.
 use Prim.Native.Nat.{ℕ, zero, suc, _+_}
 use mathlib.Core.Bool.{Bool, true, false, cond, _&&_}
@@ -28,3 +28,8 @@ firstFrom i (suc n) f = elim (f i) [ true ↦ i | false ↦ firstFrom (suc i) n 
 abbrev pub countIf {ℓ} : {A : Type ℓ} → (A → Bool) → List A → ℕ
 countIf f [] = zero
 countIf f (x ∷ xs) = cond (f x) (suc zero) zero + countIf f xs
+
+-- i is in the list.
+pub data Among (i : ℕ) : List ℕ → Type 0 where
+  here : {js : List ℕ} → Among i (i ∷ js)
+  there : {j : ℕ} {js : List ℕ} → Among i js → Among i (j ∷ js)

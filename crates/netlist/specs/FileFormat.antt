@@ -1,5 +1,5 @@
 -- The netlist file: the scope paper, "The netlist file". Rows from bytes, and bytes from rows; the questions stand in crate `questions`.
--- Interface: blockCount, blockAt, rowPart, rowOffset, fieldsOf, netlistOf (reading); fileOf (writing).
+-- Interface: blockCount, blockAt, rowPart, rowOffset, fieldsOf, netlistOf (reading); fileOf, fileIn, fileLeft (writing).
 -- Assumes nothing.
 use Prim.Native.Nat.{ℕ, zero, suc, _+_, _-_, _*_, _/_, _%_, _^_}
 use mathlib.Core.Bool.{cond}
@@ -87,3 +87,11 @@ blocksFor n = (n + 62) / 63
 -- The file of these rows.
 unfoldable pub fileOf : List Row → List ℕ
 fileOf rs = let k = blocksFor (length rs) in joinBelow k (λ B. blockBytes k B (blockRows rs B))
+
+-- The old result becomes the file of these rows, with zeros to its end.
+abbrev pub fileIn : List Row → List ℕ → List ℕ
+fileIn rows old = fileOf rows ++ replicate (length old - length (fileOf rows)) 0
+
+-- The file of n rows at the start of a result.
+abbrev pub fileLeft : List ℕ → ℕ → List ℕ
+fileLeft result n = take (512 * blocksFor n) result

@@ -47,3 +47,7 @@ mostSteps = 4096
 
 abbrev pub runWorkBytes : ℕ
 runWorkBytes = 16384
+
+-- Question 23: Sort's work.
+abbrev pub sortWorkBytes : ℕ
+sortWorkBytes = 16384

@@ -1,10 +1,10 @@
 -- Rows, their fields, names and literals: the scope paper, "The netlist file".
--- Interface: Row, RowFields, encodeRow, decodeRow, rowAt, kindOf, onRegister, onOutput, isInput, isRegister, isUnknown, isOutput, labelOf, phaseOf, hasName, isNamed, rowNamed, HasInput, HasRegister, HasUnknown, HasOutput, literalsOf, mapLiterals.
+-- Interface: Row, RowFields, encodeRow, decodeRow, rowAt, kindOf, onRegister, onOutput, isInput, isRegister, isUnknown, isOutput, labelOf, phaseOf, hasName, isNamed, rowNamed, HasInput, HasRegister, HasUnknown, HasOutput, literalsOf, faninNodes, mapLiterals.
 -- Assumes nothing.
-use Prim.Native.Nat.{ℕ, zero, suc}
+use Prim.Native.Nat.{ℕ, zero, suc, _/_}
 use mathlib.Core.Path.{_≡_}
 use mathlib.Core.Bool.{Bool, true, false, _&&_, _||_}
-use mathlib.Core.List.{List, [], _∷_}
+use mathlib.Core.List.{List, [], _∷_, map}
 use lib.ListN.{length, getD}
 use lib.Dec.{eqb, ltb}
 use Rattle.memory.specs.Lists.{firstFrom}
@@ -152,6 +152,10 @@ literalsOf (andGate a b) = a ∷ b ∷ []
 literalsOf (xorGate a b) = a ∷ b ∷ []
 literalsOf (muxGate a b c) = a ∷ b ∷ c ∷ []
 literalsOf (output a l p) = a ∷ []
+
+-- The nodes that a row names, through operands and next values.
+abbrev pub faninNodes : Row → List ℕ
+faninNodes r = map (λ (l : ℕ). l / 2) (literalsOf r)
 
 -- The row with f of each of its literals.
 abbrev pub mapLiterals : (ℕ → ℕ) → Row → Row

@@ -1,5 +1,5 @@
 -- What an accepted netlist is, as propositions: literals that name rows in range, phases, resets, names that are unique.
--- Interface: CheckedRows (questions 6 to 10), FoldableRows (6 to 13), and the words that they are made of.
+-- Interface: CheckedRows and UnorderedRows (questions 6 to 10), FoldableRows (6 to 13), FileShape (rows that a file is written of), and the words that they are made of.
 -- Assumes nothing.
 use Prim.Native.Nat.{ℕ, _<_, _≤_, _/_, _^_}
 use mathlib.Core.Path.{_≡_}
@@ -70,6 +70,22 @@ pub record SameName (r s : Row) : Type 0 where
 abbrev pub NamesUnique : List Row → Type 0
 NamesUnique rows = (x y : ℕ) → x < length rows → y < length rows → hasName (rowAt rows x) ≡ true → SameName (rowAt rows x) (rowAt rows y) → x ≡ y
 
+-- The same of each two rows, the lower one first.
+abbrev pub NamesDistinct : List Row → Type 0
+NamesDistinct xs = (i j : ℕ) → i < j → j < length xs → hasName (rowAt xs i) ≡ true → SameName (rowAt xs i) (rowAt xs j) → ⊥
+
+-- Rows in the shape of a file that Check accepts, with phases below N: the constant first, then nodes, then outputs; names unique, phases and resets in range, literals that name nodes.
+pub record FileShape (N : ℕ) (rows : List Row) : Type 0 where
+  pub some-row : 0 < length rows
+  pub constant-first : rowAt rows 0 ≡ constant
+  pub solid : (y : ℕ) → 0 < y → y < length rows → 0 < kindOf (rowAt rows y)
+  pub nodes-first : (y : ℕ) → y < length rows → isOutput (rowAt rows y) ≡ false → (x : ℕ) → x < y → isOutput (rowAt rows x) ≡ false
+  pub some-output : (y : ℕ) × (y < length rows) × (isOutput (rowAt rows y) ≡ true)
+  pub phases : (y : ℕ) → y < length rows → phaseOf (rowAt rows y) < N
+  pub resets : (y : ℕ) → y < length rows → ResetIn (rowAt rows y)
+  pub distinct : NamesDistinct rows
+  pub literals : (y : ℕ) → y < length rows → OnLiterals (λ l. l / 2 < y) (NamesNode rows) (rowAt rows y)
+
 -- What questions 6 to 10 say of the rows, where `Operands` says what the operands of gates may name.
 pub record CheckedBy (Operands : List Row → Type 0) (rows : List Row) : Type 0 where
   pub operands : Operands rows
@@ -77,6 +93,7 @@ pub record CheckedBy (Operands : List Row → Type 0) (rows : List Row) : Type 0
   pub resets : (x : ℕ) → x < length rows → ResetIn (rowAt rows x)
   pub phases : (x : ℕ) → x < length rows → phaseOf (rowAt rows x) < mostPhases
   pub constant-first : rowAt rows 0 ≡ constant
+  pub constant-only : (x : ℕ) → x < length rows → kindOf (rowAt rows x) ≡ 0 → x ≡ 0
   pub nodes-first : (x y : ℕ) → y < length rows → isOutput (rowAt rows x) ≡ true → isOutput (rowAt rows y) ≡ false → y < x
   pub has-output : (x a l p : ℕ) × (x < length rows) × (rowAt rows x ≡ output a l p)
   pub unique : NamesUnique rows
@@ -84,6 +101,14 @@ pub record CheckedBy (Operands : List Row → Type 0) (rows : List Row) : Type 0
 -- The netlist of a file that Check accepts: gates name earlier rows.
 abbrev pub CheckedRows : List Row → Type 0
 CheckedRows = CheckedBy Ordered
+
+-- Each gate may name any node.
+abbrev pub Unordered : List Row → Type 0
+Unordered rows = (x : ℕ) → x < length rows → OnLiterals (NamesNode rows) (NamesNode rows) (rowAt rows x)
+
+-- The netlist of a file whose gates may stand in any order.
+abbrev pub UnorderedRows : List Row → Type 0
+UnorderedRows = CheckedBy Unordered
 
 -- A netlist that Fold accepts, as far as its values go.
 pub record WellFormed (rows : List Row) : Type 0 where

@@ -29,3 +29,6 @@ pub const LAST_STATE: usize = 256;
 pub const MOST_STEPS: usize = 4096;
 
 pub const RUN_WORK_BYTES: usize = 16384;
+
+// Sort's work.
+pub const SORT_WORK_BYTES: usize = 16384;

@@ -5,6 +5,7 @@ use crate::outcome::Outcome;
 use crate::outcome::done_with;
 use crate::outcome::fail_word;
 use crate::outcome::finish;
+use accept::Acceptance;
 use c_answers::PfCounts;
 use c_answers::PfRefusal;
 use listing::rows::put_rows;
@@ -118,9 +119,17 @@ fn tell_rows(file: &[u8]) -> Outcome {
     finish(&room, out, Outcome::Done)
 }
 
-// All rows of an accepted file.
+// What a file is refused for whose gates may stand in any order; zeros if nothing.
+pub fn unordered_refusal(file: &[u8]) -> PfRefusal {
+    match accept::accept_unordered(file) {
+        Acceptance::Accepted { rows: _, counts: _ } => c_answers::told(0, 0),
+        Acceptance::Refused(refusal) => c_answers::file_numbers(refusal),
+    }
+}
+
+// All rows of an accepted file, whose gates may stand in any order.
 pub fn rows(path: &[u8], file: &[u8]) -> Outcome {
-    let refusal = phasefold::c_check::pf_check(file);
+    let refusal = unordered_refusal(file);
     if refusal.number == 0 {
         tell_rows(file)
     } else {

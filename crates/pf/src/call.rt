@@ -17,6 +17,7 @@ pub enum Command {
     Show,
     Rows,
     Make,
+    Sort,
     Fold,
     Clocks,
     Run,
@@ -33,6 +34,9 @@ pub fn is_help(word: &[u8]) -> bool {
 fn command_of_two_files(word: &[u8]) -> Command {
     if same(word, b"make") {
         return Command::Make;
+    }
+    if same(word, b"sort") {
+        return Command::Sort;
     }
     if same(word, b"fold") {
         return Command::Fold;
@@ -79,6 +83,7 @@ pub fn count_right(command: Command, count: usize) -> bool {
         Command::Show => count == 2,
         Command::Rows => count == 1,
         Command::Make => count == 2,
+        Command::Sort => count == 2,
         Command::Fold => within(count, 1, 3),
         Command::Clocks => within(count, 1, 2),
         Command::Run => count == 3,
@@ -95,6 +100,7 @@ fn tell_form(fd: i32, command: Command, width: usize) -> bool {
         Command::Show => tell_padded(fd, b"pf show FILE BLOCK", width),
         Command::Rows => tell_padded(fd, b"pf rows FILE", width),
         Command::Make => tell_padded(fd, b"pf make ROWS FILE", width),
+        Command::Sort => tell_padded(fd, b"pf sort FILE RESULT", width),
         Command::Fold => tell_padded(fd, b"pf fold FILE [WISH [RESULT]]", width),
         Command::Clocks => tell_padded(fd, b"pf clocks FILE [WISH]", width),
         Command::Run => tell_padded(fd, b"pf run FILE STEPS VALUES", width),
@@ -120,6 +126,7 @@ fn tell_purpose(command: Command) -> bool {
         Command::Show => put_out(b"the 504 row bytes of a block\n"),
         Command::Rows => put_out(b"its rows as text: number kind reset a b c\n"),
         Command::Make => put_out(b"a netlist file from such text\n"),
+        Command::Sort => put_out(b"puts its gates in order, each after those that it names\n"),
         Command::Fold => {
             put_out(b"folds it into WISH phases, 1 to 8; 0 or none lets it choose\n")
         }
@@ -139,7 +146,10 @@ fn tell_details(command: Command) -> bool {
         ),
         Command::Rows => put_out(b"A literal is 2 x row, and 1 more if it is inverted.\n"),
         Command::Make => put_out(
-            b"ROWS has a line for each row, in order: number kind reset a b c. # begins a remark.\nkind 0: the constant, row 0 alone\nkind 1: input, a label, b phase\nkind 2: register, a next value, b label; reset 0, 1, or 2 for unknown\nkind 3: AND of a and b; kind 4: XOR of a and b\nkind 5: MUX, b if a is 1, c if a is 0\nkind 6: output, a what it shows, b label, c phase\nA next value, an operand and what an output shows is a literal: 2 x row, and 1 more if it is inverted.\nA file at FILE is replaced only if it is empty or a netlist file. FILE may be - for standard output.\n",
+            b"ROWS has a line for each row, in order: number kind reset a b c. # begins a remark.\nkind 0: the constant, row 0 alone\nkind 1: input, a label, b phase\nkind 2: register, a next value, b label; reset 0, 1, or 2 for unknown\nkind 3: AND of a and b; kind 4: XOR of a and b\nkind 5: MUX, b if a is 1, c if a is 0\nkind 6: output, a what it shows, b label, c phase\nA next value, an operand and what an output shows is a literal: 2 x row, and 1 more if it is inverted.\nGates may stand in any order; pf sort puts them in order.\nA file at FILE is replaced only if it is empty or a netlist file. FILE may be - for standard output.\n",
+        ),
+        Command::Sort => put_out(
+            b"Prints how many rows there are. In FILE a gate may name any node; only make, rows and sort take such a file.\nThe constant comes first, then inputs and registers, then always the lowest gate whose gate operands are placed, then outputs.\nA loop of gates has no order: it is refused with 22, and its gates are named.\nThe sorted file is kept in RESULT. A file there is replaced only if it is empty or a netlist file.\nIf RESULT is -, the sorted file goes to standard output, and what is printed to standard error.\n",
         ),
         Command::Fold => put_out(
             b"Prints stem and cycle of the lasso, phases, used generators, rows, and a line for each clock.\nThe fold is kept in RESULT. A file there is replaced only if it is empty or a netlist file.\nIf RESULT is -, the fold goes to standard output, and what is printed to standard error.\n",
@@ -171,10 +181,11 @@ fn tell_help_of_files() -> bool {
 // Help on those that make something of it.
 fn tell_help_of_work() -> bool {
     let made = tell_help(Command::Make);
+    let ordered = tell_help(Command::Sort);
     let folded = tell_help(Command::Fold);
     let drawn = tell_help(Command::Clocks);
     let ran = tell_help(Command::Run);
-    both(both(made, folded), both(drawn, ran))
+    both(both(both(made, ordered), folded), both(drawn, ran))
 }
 
 // What holds for all commands.

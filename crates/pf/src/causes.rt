@@ -1,5 +1,6 @@
 // A refusal told: its line on standard output, and on standard error a sentence that says what is wrong where, with the values seen.
 use crate::block_causes::say_block_cause;
+use crate::loop_causes::say_loop;
 use crate::outcome::Outcome;
 use crate::outcome::say;
 use crate::outcome::say_text;
@@ -90,7 +91,7 @@ fn say_word_cause(file: &[u8], number: u32, word: &[u8]) {
     }
 }
 
-// 10, 15 and 16.
+// 10, 15, 16 and 23.
 fn say_plain_cause(number: u32) {
     match number {
         10 => say_text(b"there is no output"),
@@ -101,13 +102,14 @@ fn say_plain_cause(number: u32) {
     }
 }
 
-// 10 to 17, and 21.
+// 10 to 17, and 21 to 23.
 fn say_other_cause(file: &[u8], number: u32, place: usize, word: &[u8]) {
     match number {
         11 => say_many_rows(file),
         12 => say_many_registers(file),
         13 => say_phase(file, place),
         14 | 17 | 21 => say_word_cause(file, number, word),
+        22 => say_loop(file, place),
         _ => say_plain_cause(number),
     }
 }

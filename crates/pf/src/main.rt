@@ -1,16 +1,18 @@
-// The command pf: Check, Count, Show, Fold and Run of netlist files, their rows as text and back, and clocks drawn.
+// The command pf: Check, Count, Show, Sort, Fold and Run of netlist files, their rows as text and back, and clocks drawn.
 // The script that starts it opens descriptor 3, to which its outcome goes as a digit, and those of a result that is kept (`saving`).
 mod answers;
 mod block_causes;
 mod call;
 mod causes;
 mod folding;
+mod loop_causes;
 mod make;
 mod outcome;
 mod parse;
 mod row_causes;
 mod run;
 mod saving;
+mod sorting;
 
 use call::Command;
 use listing::rows::file_room;
@@ -37,6 +39,7 @@ fn answer(
         Command::Count => answers::count(path, file),
         Command::Show => answers::show(path, file, second),
         Command::Rows => answers::rows(path, file),
+        Command::Sort => sorting::sort(path, file, second),
         Command::Fold => folding::fold(count, path, file, second, third),
         Command::Clocks => folding::clocks(count, path, file, second),
         Command::Run => run::run(path, file, second, third),

@@ -1,4 +1,5 @@
 // A netlist file made from a text of rows, or what is wrong with the text.
+use crate::answers::unordered_refusal;
 use crate::block_causes::is_first_block;
 use crate::causes::refuse;
 use crate::outcome::OUTPUT;
@@ -16,6 +17,7 @@ use crate::parse::Wrong;
 use crate::parse::line_of;
 use crate::parse::read_text;
 use crate::parse::word_of;
+use crate::row_causes::say_row_cause;
 use crate::saving::save;
 use c_answers::PfRefusal;
 use listing::rows::MOST_ROWS;
@@ -113,11 +115,33 @@ fn refused_line(text: &[u8], refusal: PfRefusal) -> usize {
     }
 }
 
-// An accepted file is written to the path.
-fn save_accepted(source: &[u8], text: &[u8], path: &[u8], file: &[u8]) -> Outcome {
+// If the gates of a file that is made are not in order, this is told, with the first gate that Check refuses.
+fn say_if_unordered(source: &[u8], text: &[u8], file: &[u8]) {
     let refusal = phasefold::c_check::pf_check(file);
+    if refusal.number != 0 {
+        say_where(source, refused_line(text, refusal));
+        say_text(b"the file is made, but its gates are not in order: ");
+        say_row_cause(file, refusal.number, refusal.place as usize);
+        say_text(b"\n");
+    }
+}
+
+// A file is written to the path.
+fn save_told(source: &[u8], text: &[u8], path: &[u8], file: &[u8]) -> Outcome {
+    match save(path, file) {
+        Outcome::Done => {
+            say_if_unordered(source, text, file);
+            Outcome::Done
+        }
+        _ => Outcome::Failed,
+    }
+}
+
+// An accepted file is written to the path; its gates may stand in any order.
+fn save_accepted(source: &[u8], text: &[u8], path: &[u8], file: &[u8]) -> Outcome {
+    let refusal = unordered_refusal(file);
     if refusal.number == 0 {
-        save(path, file)
+        save_told(source, text, path, file)
     } else {
         refuse(source, refused_line(text, refusal), file, refusal, b"")
     }

@@ -180,28 +180,48 @@ fn say_label_cause(file: &[u8], row: usize, fields: Fields) {
 
 // ---- 9
 
-// Whether a gate's operand names no earlier row.
-fn operand_wrong(literal: usize, row: usize) -> bool {
-    row <= literal / 2
+// Whether a literal names a row that is no output.
+fn names_node(file: &[u8], literal: usize) -> bool {
+    let named = literal / 2;
+    if row_count(file) <= named {
+        return false;
+    }
+    let fields = fields_of(file, named);
+    fields.kind != 6
 }
 
-// The first wrong operand of a gate.
-fn wrong_operand(fields: Fields, row: usize) -> usize {
-    if operand_wrong(fields.a, row) {
+// A gate's first operand that names no node; its last one if there is none.
+fn strange_operand(file: &[u8], fields: Fields) -> usize {
+    if !names_node(file, fields.a) {
         return fields.a;
     }
-    if operand_wrong(fields.b, row) {
+    if !names_node(file, fields.b) {
         return fields.b;
     }
     fields.c
 }
 
-// A gate's operand that is no earlier row.
-fn say_operand(row: usize, literal: usize) {
+// A gate's first operand that is no earlier row.
+fn late_operand(fields: Fields, row: usize) -> usize {
+    if row <= fields.a / 2 {
+        return fields.a;
+    }
+    if row <= fields.b / 2 {
+        return fields.b;
+    }
+    fields.c
+}
+
+// A gate's operand that is no earlier row; where it is the gate itself, no order helps.
+fn say_late_operand(row: usize, literal: usize) {
+    let named = literal / 2;
     say(
         b"row #: literal # names row #, and a gate's operands name earlier rows",
-        three(row, literal, literal / 2),
+        three(row, literal, named),
     );
+    if named != row {
+        say_text(b"; pf sort puts gates in order");
+    }
 }
 
 // A literal that names no node.
@@ -221,11 +241,21 @@ fn say_named_row(file: &[u8], row: usize, literal: usize) {
     }
 }
 
+// A gate's operand that names no node; else one that is no earlier row.
+fn say_gate_cause(file: &[u8], row: usize, fields: Fields) {
+    let strange = strange_operand(file, fields);
+    if names_node(file, strange) {
+        say_late_operand(row, late_operand(fields, row));
+    } else {
+        say_named_row(file, row, strange);
+    }
+}
+
 // The first literal that is wrong.
 fn say_literal_cause(file: &[u8], row: usize, fields: Fields) {
     let kind = fields.kind;
     match kind {
-        3..=5 => say_operand(row, wrong_operand(fields, row)),
+        3..=5 => say_gate_cause(file, row, fields),
         _ => say_named_row(file, row, fields.a),
     }
 }

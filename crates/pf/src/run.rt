@@ -28,8 +28,8 @@ use text::out::put_byte;
 use text::out::to;
 use text::out::two;
 
-// Work for a run.
-fn work_room() -> [u8; 16384]
+// Work for a run, or for a sort.
+pub fn work_room() -> [u8; 16384]
     ensures { λ r. ⌜ 16384 ≡ length r ⌝ }
 {
     [0; 16384]

@@ -24,12 +24,18 @@ use Rattle.run.specs.declared.RunAnswer.{RunAnswer}
 use Rattle.run.specs.declared.RunAnswer.the-variants as run
 use Rattle.run.specs.declared.RunRefusal.{RunRefusal}
 use Rattle.count.specs.CountOutcome.{countRefusal, countsAnswered, Counted}
-use Rattle.c_answers.specs.AnswerNumbers.{refusalNumbers, acceptedCounts, refusedCounts}
-use Rattle.phasefold.specs.ForeignAnswers.{countNumbers, RanFlat}
+use Rattle.sort.specs.SortAnswers.{sortRefusalIn, sortingRefusal, rowsIn}
+use Rattle.sort.specs.SortOutcome.{Sorted}
+use Rattle.sort.specs.declared.Sorting.{Sorting}
+use Rattle.sort.specs.declared.Sorting.the-variants as sort
+use Rattle.sort.specs.declared.SortRefusal.{SortRefusal}
+use Rattle.c_answers.specs.AnswerNumbers.{refusalNumbers, acceptedCounts, refusedCounts, writtenNumbers}
+use Rattle.phasefold.specs.ForeignAnswers.{countNumbers, RanFlat, SortedFlat}
 use Rattle.count.specs.declared.CountAnswer.{CountAnswer}
 use Rattle.count.specs.declared.CountAnswer.the-variants as count
 use Rattle.c_answers.specs.declared.PfRefusal.{PfRefusal}
 use Rattle.c_answers.specs.declared.PfCounts.{PfCounts}
+use Rattle.c_answers.specs.declared.PfWritten.{PfWritten}
 
 module _ (file : List ℕ) (a : Acceptance) (checked : Checked file a) where
   pub check-flat : (n : ℕ) (c : code.Counts) (r : PfRefusal) → a ≡ Accepted n c → r ≡ record { number = 0; place = 0 } → r ≡ refusalNumbers (fileRefusal file)
@@ -65,3 +71,10 @@ module _ (file : List ℕ) (T : ℕ) (choices inputs result result′ work work�
 
   pub run-refused-flat : (q : RunRefusal) → a ≡ run.Refused q → r ≡ refusalNumbers (runRefusalIn q) → RanFlat file T choices inputs result result′ work work′ r
   run-refused-flat q e h = record { answer = a; ran = R; flat = h ∙ ap refusalNumbers (sym (ap runAnswered e)) }
+
+module _ (file result result′ work work′ : List ℕ) (a : Sorting) (S : Sorted file result result′ work work′ a) (r : PfWritten) where
+  pub sorted-flat : (n : ℕ) → a ≡ sort.Done n → r ≡ writtenNumbers noRefusal n → SortedFlat file result result′ work work′ r
+  sorted-flat n e h = record { answer = a; sorted = S; flat = h ∙ ap (λ (x : Sorting). writtenNumbers (sortingRefusal x) (rowsIn x)) (sym e) }
+
+  pub sort-refused-flat : (q : SortRefusal) → a ≡ sort.Refused q → r ≡ writtenNumbers (sortRefusalIn q) 0 → SortedFlat file result result′ work work′ r
+  sort-refused-flat q e h = record { answer = a; sorted = S; flat = h ∙ ap (λ (x : Sorting). writtenNumbers (sortingRefusal x) (rowsIn x)) (sym e) }

@@ -1,5 +1,5 @@
--- The entire outcome of each operation as C callers get it: the scope paper, "Questions, in order" and "Operations and lent memory".
--- Interface: countNumbers, ShownFlat, RanFlat, FoldedFlat; Check's is `refusalNumbers` of `fileRefusal`.
+-- The entire outcome of each operation as C callers get it: the scope paper, "Questions, in order" and "Operations and lent memory", and the change requests.
+-- Interface: countNumbers, ShownFlat, RanFlat, FoldedFlat, SortedFlat; Check's is `refusalNumbers` of `fileRefusal`.
 -- Assumes nothing.
 use Prim.Native.Nat.{ℕ}
 use mathlib.Core.Path.{_≡_}
@@ -16,11 +16,15 @@ use Rattle.run.specs.declared.RunAnswer.{RunAnswer}
 use Rattle.clock_list.specs.declared.Clock.{Clock}
 use Rattle.fold_core.specs.declared.Folding.{Folding}
 use Rattle.fold.specs.FoldedOutcome.{Folded}
-use Rattle.c_answers.specs.AnswerNumbers.{refusalNumbers, acceptedCounts, refusedCounts, foldedNumbers}
+use Rattle.sort.specs.SortAnswers.{sortingRefusal, rowsIn}
+use Rattle.sort.specs.SortOutcome.{Sorted}
+use Rattle.sort.specs.declared.Sorting.{Sorting}
+use Rattle.c_answers.specs.AnswerNumbers.{refusalNumbers, acceptedCounts, refusedCounts, foldedNumbers, writtenNumbers}
 use Rattle.c_answers.specs.declared.PfRefusal.{PfRefusal}
 use Rattle.c_answers.specs.declared.PfCounts.{PfCounts}
 use Rattle.c_answers.specs.declared.PfShown.{PfShown}
 use Rattle.c_answers.specs.declared.PfFolded.{PfFolded}
+use Rattle.c_answers.specs.declared.PfWritten.{PfWritten}
 
 abbrev pub countNumbers : List ℕ → PfCounts
 countNumbers file = unlessRefused (fileRefusal file) (acceptedCounts (countsOf (netlistOf file))) (refusedCounts (fileRefusal file))
@@ -42,3 +46,9 @@ pub record FoldedFlat (file : List ℕ) (wish : ℕ) (result result′ work work
   pub answer : Folding
   pub folded : Folded file wish result result′ work work′ clocks clocks′ answer
   pub flat : r ≡ foldedNumbers answer
+
+-- Sort's outcome, with its answer as numbers.
+pub record SortedFlat (file result result′ work work′ : List ℕ) (r : PfWritten) : Type 0 where
+  pub answer : Sorting
+  pub sorted : Sorted file result result′ work work′ answer
+  pub flat : r ≡ writtenNumbers (sortingRefusal answer) (rowsIn answer)

@@ -16,15 +16,15 @@ use Rattle.memory.specs.Lists.{countIf}
 use Rattle.memory.specs.Fields.{byteAt}
 use Rattle.memory.proofs.ListLaws.{count-some}
 use Rattle.netlist.specs.Limits.{mostPhases, mostSteps, mostRows}
-use Rattle.netlist.specs.Rows.{Row, constant, input, register, andGate, xorGate, muxGate, output, RowFields, encodeRow, rowFromFields, decodeRow, rowAt, phaseOf, hasName, isOutput}
+use Rattle.netlist.specs.Rows.{Row, constant, input, register, andGate, xorGate, muxGate, output, RowFields, encodeRow, rowFromFields, decodeRow, rowAt, kindOf, phaseOf, hasName, isOutput}
 use Rattle.netlist.specs.FileFormat.{blockCount, blockAt, fieldsOf, fieldsAt, netlistOf, blocksFor}
 use Rattle.netlist.proofs.RowLaws.{output-is, named-alike}
-use Rattle.netlist.specs.WellFormed.{CheckedBy, CheckedRows, SameName, OperandsBelow, Ordered, NextBelow, ResetIn, NamesNode, OnLiterals, NamesUnique, FoldableRows}
+use Rattle.netlist.specs.WellFormed.{CheckedBy, CheckedRows, Unordered, UnorderedRows, SameName, OperandsBelow, Ordered, NextBelow, ResetIn, NamesNode, OnLiterals, NamesUnique, FoldableRows}
 use Rattle.netlist.proofs.FileLaws.{block-at, read-length}
-use Rattle.questions.specs.Questions.{Refusal, noRefusal, question, itemQuestions, lengthRight, sumRight, headRight, countRight, unusedRight, blockQuestions, kindRight, fieldsRight, labelIsNew, namesEarlier, literalsRight, rowQuestions, rowsRefusal, fileRefusalWith, fileRefusal, valueListsRight, allBinary, runMemoryRight, runRefusal, showRefusal}
+use Rattle.questions.specs.Questions.{Refusal, noRefusal, question, itemQuestions, lengthRight, sumRight, headRight, countRight, unusedRight, blockQuestions, kindRight, fieldsRight, labelIsNew, namesEarlier, namesAnywhere, literalsRight, rowQuestions, rowsRefusal, fileRefusalWith, fileRefusal, unorderedRefusal, valueListsRight, allBinary, runMemoryRight, runRefusal, showRefusal}
 use Rattle.questions.proofs.QuestionLaws.{all-none, all-yes, _then_, number-none, question-none, question-of, items-none, items-yes, passed, passed-of}
-use Rattle.questions.specs.QuestionWords.{LengthWords, KindWords, FieldsWords}
-use Rattle.questions.proofs.PlainWords.{lengthRight-iff, BlockWords, sumRight-iff, headRight-iff, countRight-iff, unusedRight-iff, kindRight-iff, fieldsRight-iff, labelIsNew-iff, literalsRight-iff, namesEarlier-iff}
+use Rattle.questions.specs.QuestionWords.{LengthWords, KindWords, FieldsWords, NamesEarlierNode}
+use Rattle.questions.proofs.PlainWords.{lengthRight-iff, BlockWords, sumRight-iff, headRight-iff, countRight-iff, unusedRight-iff, kindRight-iff, fieldsRight-iff, labelIsNew-iff, literalsRight-iff, literalWords-iff, unorderedWords-iff, namesEarlier-iff, namesAnywhere-iff}
 
 -- What a gate's operands may name.
 abbrev pub Operand : Type 0
@@ -217,6 +217,9 @@ module _ (operand : Operand) (ws : List RowFields) (R : RowsRight operand ws) wh
       let h : 0 < length rows = omega (arith, rows-output .4) in
       row-is 0 ∙ ap (λ (k : ℕ). rowFromFields k (fieldsAt ws 0 .reset) (fieldsAt ws 0 .a) (fieldsAt ws 0 .b) (fieldsAt ws 0 .c)) (kind-words 0 h .constant-first refl)
 
+  pub rows-constant-only : (i : ℕ) → i < length rows → kindOf (rowAt rows i) ≡ 0 → i ≡ 0
+  rows-constant-only i h e = kind-words i h .constant-only (ap (λ (w : RowFields). w .kind) (sym (rows-fields i h)) ∙ e)
+
   -- Every node stands before every output.
   pub rows-nodes-first : (i j : ℕ) → j < length rows → isOutput (rowAt rows i) ≡ true → isOutput (rowAt rows j) ≡ false → j < i
   rows-nodes-first i j h o n = elim (decLt j i) [
@@ -259,6 +262,7 @@ rows-checked-by operand Operands ws R h = record {
   resets = rows-resets operand ws R;
   phases = rows-phases operand ws R;
   constant-first = rows-constant operand ws R;
+  constant-only = rows-constant-only operand ws R;
   nodes-first = rows-nodes-first operand ws R;
   has-output = rows-output operand ws R;
   unique = rows-unique operand ws R;
@@ -270,6 +274,41 @@ rows-checked ws R = rows-checked-by namesEarlier Ordered ws R (rows-ordered name
 pub file-checked : (f : List ℕ) → FileRight namesEarlier f → CheckedRows (netlistOf f)
 unfolding netlistOf
 file-checked f F = rows-checked (fieldsOf f) (file-rows namesEarlier f F)
+
+-- Gates in any order.
+pub rows-unordered : (ws : List RowFields) → RowsRight namesAnywhere ws → UnorderedRows (map decodeRow ws)
+rows-unordered ws R = rows-checked-by namesAnywhere Unordered ws R (λ i h. literal-words namesAnywhere ws R i h (NamesNode (map decodeRow ws)) (namesAnywhere-iff (map decodeRow ws) i))
+
+pub file-unordered : (f : List ℕ) → FileRight namesAnywhere f → UnorderedRows (netlistOf f)
+unfolding netlistOf
+file-unordered f F = rows-unordered (fieldsOf f) (file-rows namesAnywhere f F)
+
+-- A file that Check accepts passes 1 to 10 also where gates may stand in any order: before a gate stand nodes only.
+literals-wider : (P P′ Q : ℕ → Type 0) (r : Row) → ((l : ℕ) → P l → P′ l) → OnLiterals P Q r → OnLiterals P′ Q r
+literals-wider P P′ Q constant f w = tt
+literals-wider P P′ Q (input _ _) f w = tt
+literals-wider P P′ Q (register _ _ _) f w = w
+literals-wider P P′ Q (andGate a b) f w = (f a (w .0), f b (w .1))
+literals-wider P P′ Q (xorGate a b) f w = (f a (w .0), f b (w .1))
+literals-wider P P′ Q (muxGate a b c) f w = ((f a (w .0 .0), f b (w .0 .1)), f c (w .1))
+literals-wider P P′ Q (output _ _ _) f w = w
+
+row-unordered : (ws : List RowFields) → EachRowRight namesEarlier ws → EachRowRight namesAnywhere ws
+row-unordered ws R i l =
+    let rows = map decodeRow ws in
+    let r = R i l in
+    let words = literalWords-iff rows i _ (kindRight-iff ws rows i .0 (r .kind)) .0 (r .literals) in
+    record {
+      kind = r .kind;
+      fields = r .fields;
+      label = r .label;
+      literals = unorderedWords-iff rows i .1 (literals-wider (NamesEarlierNode rows i) (NamesNode rows) (NamesNode rows) (rowAt rows i) (λ n w. (omega (arith, w .0, l, length-map ws decodeRow), w .1)) words);
+    }
+
+pub checked-unordered : (f : List ℕ) → fileRefusal f ≡ noRefusal → unorderedRefusal f ≡ noRefusal
+checked-unordered f e =
+    let F = file-right namesEarlier f (number-none (fileRefusal f) e) in
+    file-yes namesAnywhere f (record { size = F .size; blocks = F .blocks; rows = row-unordered (fieldsOf f) (F .rows); some-output = F .some-output })
 
 -- ---- 17 to 20: Run
 

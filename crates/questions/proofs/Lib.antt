@@ -4,6 +4,7 @@ pub mod PlainWords
 pub mod AcceptedFiles
 pub mod AskedLaws
 pub mod RefusalMeaning
+pub mod ShapePasses
 pub mod PrefixLaws
 pub mod WriteThenRead
 pub mod ReadThenWrite

@@ -20,8 +20,8 @@ use Rattle.netlist.specs.Rows.{Row, constant, input, register, andGate, xorGate
 use Rattle.netlist.specs.FileFormat.{wordSum, rightSum, fieldsAt}
 use Rattle.netlist.proofs.RowLaws.{named-is, named-of}
 use Rattle.netlist.specs.WellFormed.{SameName, ResetIn, NamesNode, OnLiterals}
-use Rattle.questions.specs.Questions.{lengthRight, sumRight, headRight, countRight, unusedRight, kindRight, fieldsRight, sameName, labelIsNew, namesNode, namesEarlier, literalsRight, valueListsRight, allBinary, runMemoryRight}
-use Rattle.questions.specs.QuestionWords.{LengthWords, SumWords, MarkWords, HeadWords, rowsSaid, CountWords, UnusedWords, KindWords, FieldsWords, LabelWords, NamesEarlierNode, LiteralWords, OutputWords, ListsWords, BinaryWords, RoomWords}
+use Rattle.questions.specs.Questions.{lengthRight, sumRight, headRight, countRight, unusedRight, kindRight, fieldsRight, sameName, labelIsNew, namesNode, namesEarlier, namesAnywhere, literalsRight, valueListsRight, allBinary, runMemoryRight}
+use Rattle.questions.specs.QuestionWords.{LengthWords, SumWords, MarkWords, HeadWords, rowsSaid, CountWords, UnusedWords, KindWords, FieldsWords, LabelWords, NamesEarlierNode, LiteralWords, UnorderedWords, OutputWords, ListsWords, BinaryWords, RoomWords}
 
 -- ---- 1 to 5: the length, and block B
 
@@ -159,6 +159,12 @@ module _ (operand : List Row → ℕ → ℕ → Bool) (rows : List Row) (i : �
 -- Question 6 has made every row before a gate a node.
 pub literalWords-iff : (rows : List Row) (i k : ℕ) → KindWords rows i k → (literalsRight namesEarlier rows i (rowAt rows i) ≡ true) ↔ LiteralWords rows i
 literalWords-iff rows i k w = literals-iff namesEarlier rows i (NamesEarlierNode rows i) (rowAt rows i) (λ node l. Iff·trans (namesEarlier-iff rows i l) (λ h. (h, w .nodes-first node (l / 2) h), λ n. n .0))
+
+pub namesAnywhere-iff : (rows : List Row) (i l : ℕ) → (namesAnywhere rows i l ≡ true) ↔ NamesNode rows l
+namesAnywhere-iff rows i l = namesNode-iff rows l
+
+pub unorderedWords-iff : (rows : List Row) (i : ℕ) → (literalsRight namesAnywhere rows i (rowAt rows i) ≡ true) ↔ UnorderedWords rows i
+unorderedWords-iff rows i = literalsRight-iff namesAnywhere rows i (NamesNode rows) (namesAnywhere-iff rows i) (rowAt rows i)
 
 -- ---- 10: an output
 

@@ -1,10 +1,11 @@
 -- What a refusal says: the first no of a list of questions, of a question asked once, and of questions asked of items in turn.
 -- Assumes nothing.
 use Prim.Native.Nat.{ℕ, zero, suc, _<_}
-use mathlib.Core.Path.{_≡_, refl, ap, _∙_}
+use mathlib.Core.Path.{_≡_, refl, sym, ap, _∙_}
 use mathlib.Core.Bool.{Bool, true, false, cond, not, false≢true}
-use mathlib.Core.List.{List, [], _∷_}
+use mathlib.Core.List.{List, [], _∷_, _++_}
 use native.Mathlib.Omega.{arith}
+use native.Mathlib.Decide.{decLt}
 use lib.Dec.{ltb}
 use borrow.Author.Tests.{ltb-true, ltb-false, le-ltb}
 use Rattle.memory.specs.Lists.{firstFrom}
@@ -32,6 +33,24 @@ list-stop q qs h = go (q .number) refl
     go : (n : ℕ) → q .number ≡ n → (elim n as (λ _. Refusal) [ zero ↦ firstRefusal qs | suc m ↦ q ]) ≡ q
     go zero e = absurd (omega arith)
     go (suc m) e = refl
+
+pub same-number : {q r : Refusal} → q ≡ r → q .number ≡ r .number
+same-number e = ap (λ (x : Refusal). x .number) e
+
+-- More questions behind a list of them.
+pub first-before : (qs ps : List Refusal) → 0 < firstRefusal qs .number → firstRefusal (qs ++ ps) ≡ firstRefusal qs
+first-before [] ps h = absurd (omega arith)
+first-before (q ∷ qs) ps h = elim (decLt 0 (q .number)) [
+  | yes l ↦ list-stop q (qs ++ ps) l ∙ sym (list-stop q qs l)
+  | no l ↦
+      (let e : q .number ≡ 0 = omega arith in
+      let n = list-next q qs e in
+      list-next q (qs ++ ps) e ∙ first-before qs ps (omega (arith, h, same-number n)) ∙ sym n)
+]
+
+pub first-behind : (qs ps : List Refusal) → firstRefusal qs .number ≡ 0 → firstRefusal (qs ++ ps) ≡ firstRefusal ps
+first-behind [] ps h = refl
+first-behind (q ∷ qs) ps h = let n = list-none q qs h in list-next q (qs ++ ps) (n .0) ∙ first-behind qs ps (n .1)
 
 -- Each question of the list is passed.
 abbrev pub NoneRefuses : List Refusal → Type 0

@@ -1,5 +1,5 @@
 -- What each question that is asked of a file, or by Run, means in the scope paper's words; Fold's own questions stand in `FoldRefusalWords`, and where the words are one inequality (17, 21) they stand in `RefusalWords`.
--- Interface: LengthWords (1), SumWords, HeadWords, CountWords, UnusedWords (2 to 5), KindWords, FieldsWords, LabelWords, LiteralWords (6 to 9), OutputWords (10), ListsWords, BinaryWords, RoomWords (18 to 20).
+-- Interface: LengthWords (1), SumWords, HeadWords, CountWords, UnusedWords (2 to 5), KindWords, FieldsWords, LabelWords, LiteralWords, UnorderedWords (6 to 9), OutputWords (10), ListsWords, BinaryWords, RoomWords (18 to 20).
 -- Assumes nothing.
 use Prim.Native.Nat.{ℕ, suc, _+_, _-_, _*_, _<_, _≤_, _/_, _%_, _^_}
 use mathlib.Core.Path.{_≡_}
@@ -74,6 +74,10 @@ NamesEarlierNode rows i l = (l / 2 < i) × (isOutput (rowAt rows (l / 2)) ≡ fa
 -- 9: a gate's operands name nodes of smaller number; a register's next value and an output's literal name any node.
 abbrev pub LiteralWords : List Row → ℕ → Type 0
 LiteralWords rows i = OnLiterals (NamesEarlierNode rows i) (NamesNode rows) (rowAt rows i)
+
+-- 9 where gates may stand in any order: their operands name any node too.
+abbrev pub UnorderedWords : List Row → ℕ → Type 0
+UnorderedWords rows i = OnLiterals (NamesNode rows) (NamesNode rows) (rowAt rows i)
 
 -- 10: some row is an output.
 abbrev pub OutputWords : List Row → Type 0

@@ -92,6 +92,10 @@ namesNode rows l = ltb (l / 2) (length rows) && not (isOutput (rowAt rows (l / 2
 abbrev pub namesEarlier : List Row → ℕ → ℕ → Bool
 namesEarlier rows i l = ltb (l / 2) i
 
+-- 9, for an operand of a gate in a file whose gates may stand in any order: any node.
+abbrev pub namesAnywhere : List Row → ℕ → ℕ → Bool
+namesAnywhere rows i l = namesNode rows l
+
 -- 9, where `operand` says what a gate's operands may name.
 abbrev pub literalsRight : (List Row → ℕ → ℕ → Bool) → List Row → ℕ → Row → Bool
 literalsRight operand rows i constant = true
@@ -120,6 +124,10 @@ fileRefusalWith operand f = firstRefusal (question 1 (lengthRight f) ∷ itemQue
 -- Check, and what every operation asks first.
 abbrev pub fileRefusal : List ℕ → Refusal
 fileRefusal f = fileRefusalWith namesEarlier f
+
+-- The same of a file whose gates may stand in any order: what Sort asks first.
+abbrev pub unorderedRefusal : List ℕ → Refusal
+unorderedRefusal f = fileRefusalWith namesAnywhere f
 
 -- ---- Run: T steps, the two lists of values, and the lengths of result and work
 

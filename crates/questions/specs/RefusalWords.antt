@@ -1,5 +1,5 @@
 -- What a refusal means, in the scope paper's words: all that an operation asks, in order, and that the refusal names the first no.
--- Interface: Asked, AllYes, FirstNo, RefusalMeans, PrefixesRefused (the statements); askedOfFile, askedByRun, askedByShow (what is asked). Fold's list stands in `FoldRefusalWords`.
+-- Interface: Asked, AllYes, FirstNo, RefusalMeans, PrefixesRefused (the statements); askedOfFile, askedOfUnordered, askedByRun, askedByShow (what is asked). Fold's list stands in `FoldRefusalWords`.
 -- Assumes nothing.
 use Prim.Native.Nat.{ℕ, _<_, _≤_}
 use mathlib.Core.Path.{_≡_}
@@ -8,10 +8,10 @@ use mathlib.Core.List.{List, [], _∷_, _++_, map}
 use lib.ListN.{length, take}
 use Rattle.memory.specs.Lists.{joinBelow}
 use Rattle.netlist.specs.Limits.{mostSteps}
-use Rattle.netlist.specs.Rows.{RowFields, decodeRow}
+use Rattle.netlist.specs.Rows.{Row, RowFields, decodeRow}
 use Rattle.netlist.specs.FileFormat.{blockCount, blockAt, fieldsOf, fieldsAt, netlistOf}
 use Rattle.questions.specs.Questions.{Refusal, noRefusal, fileRefusal}
-use Rattle.questions.specs.QuestionWords.{LengthWords, SumWords, HeadWords, CountWords, UnusedWords, KindWords, FieldsWords, LabelWords, LiteralWords, OutputWords, ListsWords, BinaryWords, RoomWords}
+use Rattle.questions.specs.QuestionWords.{LengthWords, SumWords, HeadWords, CountWords, UnusedWords, KindWords, FieldsWords, LabelWords, LiteralWords, UnorderedWords, OutputWords, ListsWords, BinaryWords, RoomWords}
 
 -- ---- the statements
 
@@ -55,24 +55,36 @@ askedOfBlock k B b = ask 2 B (SumWords b) ∷ ask 3 B (HeadWords k B b) ∷ ask 
 unfoldable pub askedOfBlocks : List ℕ → List Asked
 askedOfBlocks f = joinBelow (blockCount f) (λ B. askedOfBlock (blockCount f) B (blockAt f B))
 
+-- What 9 asks of a row, in words: LiteralWords, or UnorderedWords where gates may stand in any order.
+abbrev pub NinthWords : Type 1
+NinthWords = List Row → ℕ → Type 0
+
 -- Of row i, ws the fields of all rows.
-abbrev pub askedOfRow : List RowFields → ℕ → List Asked
-askedOfRow ws i =
+abbrev pub askedOfRow : NinthWords → List RowFields → ℕ → List Asked
+askedOfRow ninth ws i =
     let w = fieldsAt ws i in
     let rows = map decodeRow ws in
     ask 6 i (KindWords rows i (w .kind))
     ∷ ask 7 i (FieldsWords (w .kind) (w .reset) (w .a) (w .b) (w .c))
     ∷ ask 8 i (LabelWords rows i)
-    ∷ ask 9 i (LiteralWords rows i)
+    ∷ ask 9 i (ninth rows i)
     ∷ []
 
 -- Of each row in turn, and then of all.
-unfoldable pub askedOfRows : List RowFields → List Asked
-askedOfRows ws = joinBelow (length ws) (askedOfRow ws) ++ (ask 10 0 (OutputWords (map decodeRow ws)) ∷ [])
+unfoldable pub askedOfRows : NinthWords → List RowFields → List Asked
+askedOfRows ninth ws = joinBelow (length ws) (askedOfRow ninth ws) ++ (ask 10 0 (OutputWords (map decodeRow ws)) ∷ [])
 
--- 1 to 10, which every operation asks first: of the length, the blocks and the rows.
-unfoldable pub askedOfFile : List ℕ → List Asked
-askedOfFile f = ask 1 0 (LengthWords f) ∷ askedOfBlocks f ++ askedOfRows (fieldsOf f)
+-- 1 to 10: of the length, the blocks and the rows.
+unfoldable pub askedWith : NinthWords → List ℕ → List Asked
+askedWith ninth f = ask 1 0 (LengthWords f) ∷ askedOfBlocks f ++ askedOfRows ninth (fieldsOf f)
+
+-- What every operation asks first.
+abbrev pub askedOfFile : List ℕ → List Asked
+askedOfFile f = askedWith LiteralWords f
+
+-- What Sort asks first: gates may stand in any order.
+abbrev pub askedOfUnordered : List ℕ → List Asked
+askedOfUnordered f = askedWith UnorderedWords f
 
 -- Run goes on with 17 to 20.
 unfoldable pub askedByRun : List ℕ → ℕ → List ℕ → List ℕ → ℕ → ℕ → List Asked

@@ -1,4 +1,4 @@
-// Questions 1 to 10 of the scope paper.
+// Questions 1 to 10 of the scope paper; where gates may stand in any order, a gate names any node.
 use crate::bytes::after;
 use crate::bytes::byte;
 use crate::bytes::field;
@@ -201,25 +201,30 @@ fn smaller(literal: u16, at: usize) -> bool {
     node_of(literal) < at
 }
 
-fn literals_right(file: &[u8], rows: usize, at: usize, row: Row) -> bool {
+// Fields that are no operands of the gate are 0.
+fn operands_right(file: &[u8], rows: usize, at: usize, row: Row, any_order: bool) -> bool {
+    if any_order {
+        let first = names_node(file, rows, row.a);
+        let second = names_node(file, rows, row.b);
+        first && second && names_node(file, rows, row.c)
+    } else {
+        let first = smaller(row.a, at);
+        let second = smaller(row.b, at);
+        first && second && smaller(row.c, at)
+    }
+}
+
+fn literals_right(file: &[u8], rows: usize, at: usize, row: Row, any_order: bool) -> bool {
     let kind = row.kind;
     match kind {
         2 | 6 => names_node(file, rows, row.a),
-        3 | 4 => {
-            let first = smaller(row.a, at);
-            first && smaller(row.b, at)
-        }
-        5 => {
-            let selector = smaller(row.a, at);
-            let high = smaller(row.b, at);
-            selector && high && smaller(row.c, at)
-        }
+        3 | 4 | 5 => operands_right(file, rows, at, row, any_order),
         _ => true,
     }
 }
 
 // The number of the row's first no, or 0.
-fn row_no(file: &[u8], rows: usize, at: usize, keys: &[u32]) -> u32 {
+fn row_no(file: &[u8], rows: usize, at: usize, keys: &[u32], any_order: bool) -> u32 {
     let row = row_at(file, at);
     if !kind_right(file, at, row.kind) {
         return 6;
@@ -230,15 +235,15 @@ fn row_no(file: &[u8], rows: usize, at: usize, keys: &[u32]) -> u32 {
     if !key_new(keys, at, key_of(row)) {
         return 8;
     }
-    if !literals_right(file, rows, at, row) {
+    if !literals_right(file, rows, at, row, any_order) {
         return 9;
     }
     0
 }
 
-fn ask_rows(file: &[u8], rows: usize, keys: &mut [u32]) -> Verdict {
+fn ask_rows(file: &[u8], rows: usize, keys: &mut [u32], any_order: bool) -> Verdict {
     'rows: for at in 0..rows {
-        let number = row_no(file, rows, at, keys);
+        let number = row_no(file, rows, at, keys, any_order);
         if number != 0 {
             return said(number, at);
         }
@@ -249,10 +254,10 @@ fn ask_rows(file: &[u8], rows: usize, keys: &mut [u32]) -> Verdict {
 
 // ---- all
 
-fn ask_all_rows(file: &[u8], rows: usize) -> Verdict {
+fn ask_all_rows(file: &[u8], rows: usize, any_order: bool) -> Verdict {
     let mut room = [0u32; 8064];
     let keys: &mut [u32] = &mut room;
-    ask_rows(file, rows, keys)
+    ask_rows(file, rows, keys, any_order)
 }
 
 // Outputs come last, so there is one if the last row is one.
@@ -261,7 +266,7 @@ fn ends_in_output(file: &[u8], rows: usize) -> bool {
     kind_at(file, last) == 6
 }
 
-pub fn check(file: &[u8]) -> Verdict {
+pub fn ask_file(file: &[u8], any_order: bool) -> Verdict {
     if !length_right(file) {
         return said(1, 0);
     }
@@ -270,7 +275,7 @@ pub fn check(file: &[u8]) -> Verdict {
         return blocks;
     }
     let rows = rows_of(file);
-    let asked = ask_all_rows(file, rows);
+    let asked = ask_all_rows(file, rows, any_order);
     if asked.number != 0 {
         return asked;
     }
@@ -279,4 +284,8 @@ pub fn check(file: &[u8]) -> Verdict {
     } else {
         said(10, 0)
     }
+}
+
+pub fn check(file: &[u8]) -> Verdict {
+    ask_file(file, false)
 }

@@ -7,13 +7,13 @@ use crate::rows::Row;
 use crate::rows::node_of;
 
 // The nodes that a row names; 0, which always stays, where it names fewer than three.
-struct Named {
-    first: usize,
-    second: usize,
-    third: usize,
+pub struct Named {
+    pub first: usize,
+    pub second: usize,
+    pub third: usize,
 }
 
-fn named_by(row: Row) -> Named {
+pub fn named_by(row: Row) -> Named {
     let a = node_of(row.a);
     let b = node_of(row.b);
     let c = node_of(row.c);

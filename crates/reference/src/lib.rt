@@ -1,4 +1,4 @@
-// A second folder, written from the scope paper's text alone, to hold the product against. Nothing here is shared with it.
+// A second folder and a second sorter, written from the paper's text alone, to hold the product against. Nothing here is shared with it.
 pub mod asking;
 mod bytes;
 mod clocks;
@@ -6,6 +6,7 @@ mod cone;
 mod images;
 mod made;
 pub mod rows;
+pub mod sorting;
 mod states;
 pub mod steps;
 mod values;

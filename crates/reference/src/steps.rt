@@ -1,7 +1,8 @@
-// The two-valued run of an accepted file.
+// The two-valued run of a file whose gates stand in any order, without a loop.
 use crate::bytes::after;
 use crate::bytes::byte;
 use crate::bytes::put_byte;
+use crate::cone::named_by;
 use crate::rows::Row;
 use crate::rows::row_at;
 use crate::values::gate_value;
@@ -30,13 +31,59 @@ fn next_if(taken: bool, place: usize) -> usize {
     if taken { after(place) } else { place }
 }
 
-// An input's value is the next of the list, a register's what it holds.
-fn value_of(row: Row, input: u8, held: u8, values: &[u8]) -> u8 {
+// A value that is not worked out yet.
+const OPEN: u8 = 2;
+
+// An input's value is the next of the list, a register's what it holds; gates and outputs are open.
+fn value_before(row: Row, input: u8, held: u8) -> u8 {
     let kind = row.kind;
     match kind {
+        0 => 0,
         1 => input,
         2 => held,
-        _ => gate_value(values, row),
+        _ => OPEN,
+    }
+}
+
+// The values that are there before a step; the answer is the place of the next input value.
+fn load(
+    file: &[u8],
+    rows: usize,
+    inputs: &[u8],
+    from: usize,
+    held: &[u8],
+    values: &mut [u8],
+) -> usize {
+    let mut next = from;
+    'rows: for at in 0..rows {
+        let row = row_at(file, at);
+        let value = value_before(row, byte(inputs, next), byte(held, at));
+        put_byte(values, at, value);
+        next = next_if(row.kind == 1, next);
+    }
+    next
+}
+
+// Works out a row's value, and before it those of the rows that it names. A path has no row twice, so as much depth as there are rows is enough.
+fn settle(file: &[u8], values: &mut [u8], at: usize, depth: usize) {
+    if depth == 0 {
+        return;
+    }
+    if byte(values, at) != OPEN {
+        return;
+    }
+    let row = row_at(file, at);
+    let named = named_by(row);
+    let less = depth - 1;
+    settle(file, values, named.first, less);
+    settle(file, values, named.second, less);
+    settle(file, values, named.third, less);
+    put_byte(values, at, gate_value(values, row));
+}
+
+fn settle_all(file: &[u8], rows: usize, values: &mut [u8]) {
+    'rows: for at in 0..rows {
+        settle(file, values, at, rows);
     }
 }
 
@@ -49,13 +96,8 @@ fn evaluate(
     held: &[u8],
     values: &mut [u8],
 ) -> usize {
-    let mut next = from;
-    'rows: for at in 0..rows {
-        let row = row_at(file, at);
-        let value = value_of(row, byte(inputs, next), byte(held, at), values);
-        put_byte(values, at, value);
-        next = next_if(row.kind == 1, next);
-    }
+    let next = load(file, rows, inputs, from, held, values);
+    settle_all(file, rows, values);
     next
 }
 

@@ -12,7 +12,7 @@ use borrow.Author.Tests.{le-leb, lt-leb, lt-ltb, le-ltb, ne-eqb}
 use Rattle.memory.specs.Fields.{byteAt}
 use Rattle.netlist.specs.Rows.{Row, RowFields, rowFromFields, decodeRow, rowAt, labelOf, hasName, isOutput}
 use Rattle.netlist.specs.FileFormat.{rowOffset, readFields, netlistOf}
-use Rattle.questions.specs.Questions.{fieldsRight, namesNode, namesEarlier, literalsRight}
+use Rattle.questions.specs.Questions.{fieldsRight, namesNode, literalsRight}
 use Rattle.questions.proofs.PlainWords.{fieldsRight-iff}
 use Rattle.questions.proofs.AcceptedFiles.{Operand}
 use Rattle.blockfile.specs.declared.Fields.{Fields}
@@ -21,7 +21,7 @@ use Rattle.blockfile.specs.Ready.{HasRows}
 use Rattle.row_questions.specs.declared.RowTests.{RowTests}
 use Rattle.row_questions.specs.Slots.{labels, allSlots, slotOf}
 use Rattle.row_questions.specs.Tally.{outputTally, rowTally, tallyOf}
-use Rattle.row_questions.specs.RowTested.{TestsOf}
+use Rattle.row_questions.specs.RowTested.{operandBy, TestsOf}
 use Rattle.row_questions.proofs.TallyLaws.{only-tally}
 use Rattle.row_questions.proofs.NameLaws.{and-three, sorts-of, slot-small}
 
@@ -40,6 +40,13 @@ module _ (f : List ℕ) (n l : ℕ) (R : HasRows f n) where
   pub names-no : n ≤ l / 2 → false ≡ namesNode (netlistOf f) l
   names-no h = let k : length (netlistOf f) ≤ l / 2 = omega (arith, R .count) in rw (le-ltb (l / 2) (length (netlistOf f)) k)
 
+-- What a gate's operand names.
+pub operand-any : (any : Bool) (rows : List Row) (i l : ℕ) {t : Bool} → any ≡ true → t ≡ namesNode rows l → t ≡ operandBy any rows i l
+operand-any any rows i l e told = rw e told
+
+pub operand-earlier : (any : Bool) (rows : List Row) (i l : ℕ) → any ≡ false → ltb (l / 2) i ≡ operandBy any rows i l
+operand-earlier any rows i l e = rw e
+
 -- ---- the tests
 
 label-fits : (w : Fields) → Small w → labelOf (decodeRow (fieldsIn w)) < labels
@@ -54,6 +61,13 @@ label-fits w s = go (w .kind)
     go (suc (suc (suc (suc (suc zero))))) = omega arith
     go (suc (suc (suc (suc (suc (suc zero)))))) = s .b-small
     go (suc (suc (suc (suc (suc (suc (suc k))))))) = omega arith
+
+-- A test of two or three, each told before.
+pub two-told : {s t u : Bool} (x y : Bool) → s ≡ t && u → t ≡ x → u ≡ y → s ≡ x && y
+two-told x y e f g = rw (← f, ← g) e
+
+pub three-told : {r s t u v : Bool} (x y z : Bool) → r ≡ s && v → s ≡ t && u → t ≡ x → u ≡ y → v ≡ z → r ≡ x && y && z
+three-told x y z d e f g h = two-told (x && y) z d (two-told x y e f g) h
 
 pub four : (w x y z : Bool) {s t u : Bool} → s ≡ t && z → t ≡ u && y → u ≡ w && x → s ≡ w && x && y && z
 four w x y z e f g = and-three (w && x) y z e (f ∙ ap (λ (b : Bool). b && y) g)

@@ -4,12 +4,12 @@ ghost use Prim.Native.Nat.{_<_, _≤_, _/_};
 ghost use lib.ListN.{take};
 ghost use Rattle.netlist.specs.Rows.{decodeRow};
 ghost use Rattle.netlist.specs.FileFormat.{netlistOf};
-ghost use Rattle.questions.specs.Questions.{sameName, namesNode, namesEarlier};
+ghost use Rattle.questions.specs.Questions.{sameName, namesNode};
 ghost use Rattle.blockfile.specs.RowCode.{fieldsIn, Small};
 ghost use Rattle.blockfile.specs.CountCode.{countsIn};
 ghost use Rattle.blockfile.specs.Ready.{HasRows};
 ghost use Rattle.row_questions.specs.Tally.{outputTally, tallyOf, countsFrom};
-ghost use Rattle.row_questions.specs.RowTested.{TestsOf};
+ghost use Rattle.row_questions.specs.RowTested.{operandBy, TestsOf};
 use blockfile::Fields;
 use blockfile::both;
 use blockfile::count::Counts;
@@ -60,11 +60,30 @@ fn names_node(file: &[u8], rows: usize, literal: usize) -> bool
     }
 }
 
-// The tests of a row, by its kind; the tally is that of the rows before it.
-pub fn test_row(file: &[u8], rows: usize, row: usize, tally: usize, fields: Fields) -> RowTests
+// Question 9, of an operand of the gate in this row.
+fn names_operand(file: &[u8], rows: usize, row: usize, unordered: bool, literal: usize) -> bool
+    requires { ⌜ HasRows (now file) rows ⌝ }
+    ensures { λ r. ⌜ r ≡ operandBy unordered (netlistOf (now (file .entry))) row literal ⌝ }
+{
+    if unordered {
+        names_node(file, rows, literal)
+    } else {
+        literal / 2 < row
+    }
+}
+
+// The tests of a row, by its kind; gates may stand in any order if `unordered`, and the tally is that of the rows before it.
+pub fn test_row(
+    file: &[u8],
+    rows: usize,
+    row: usize,
+    unordered: bool,
+    tally: usize,
+    fields: Fields,
+) -> RowTests
     requires { ⌜ HasRows (now file) rows × ((row < rows) × Small fields) ⌝ }
     requires { ⌜ tally ≡ tallyOf (take row (netlistOf (now file))) ⌝ }
-    ensures { λ r. ⌜ TestsOf namesEarlier (netlistOf (now (file .entry))) row (fieldsIn fields) r ⌝ }
+    ensures { λ r. ⌜ TestsOf (operandBy unordered) (netlistOf (now (file .entry))) row (fieldsIn fields) r ⌝ }
 {
     let kind = fields.kind;
     let reset = fields.reset;
@@ -107,22 +126,31 @@ pub fn test_row(file: &[u8], rows: usize, row: usize, tally: usize, fields: Fiel
                 tally: added,
             }
         }
-        3 | 4 => RowTests {
-            kind: node,
-            fields: both(reset == 0, c == 0),
-            named: false,
-            slot: 0,
-            literals: both(a / 2 < row, b / 2 < row),
-            tally: 0,
-        },
-        5 => RowTests {
-            kind: node,
-            fields: reset == 0,
-            named: false,
-            slot: 0,
-            literals: both(both(a / 2 < row, b / 2 < row), c / 2 < row),
-            tally: 0,
-        },
+        3 | 4 => {
+            let first = names_operand(file, rows, row, unordered, a);
+            let second = names_operand(file, rows, row, unordered, b);
+            RowTests {
+                kind: node,
+                fields: both(reset == 0, c == 0),
+                named: false,
+                slot: 0,
+                literals: both(first, second),
+                tally: 0,
+            }
+        }
+        5 => {
+            let first = names_operand(file, rows, row, unordered, a);
+            let second = names_operand(file, rows, row, unordered, b);
+            let third = names_operand(file, rows, row, unordered, c);
+            RowTests {
+                kind: node,
+                fields: reset == 0,
+                named: false,
+                slot: 0,
+                literals: both(both(first, second), third),
+                tally: 0,
+            }
+        }
         6 => {
             let base = OUTPUT_SLOTS + MOST_PHASES * b;
             let slot = base + c;

@@ -54,7 +54,7 @@ fn flip_row(file: &mut [u8], seed: &mut u64, row: usize) {
     seal(file, block_of(row));
 }
 
-fn put_damaged(file: &mut [u8], at: usize, row: Row) {
+pub fn put_damaged(file: &mut [u8], at: usize, row: Row) {
     put_row(file, at, row);
     seal(file, block_of(at));
 }

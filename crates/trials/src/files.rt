@@ -54,7 +54,7 @@ fn same_verdict(x: Verdict, y: Verdict) -> bool {
 
 // ---- Check
 
-fn check_right(file: &[u8], right: Verdict) -> bool {
+pub fn check_right(file: &[u8], right: Verdict) -> bool {
     let answer = of_check(phasefold::check(file));
     same_verdict(answer, right)
 }

@@ -1,5 +1,5 @@
-// Random netlists and damaged files folded by the product and by the reference, a folder written separately from the scope
-// paper's text; files and their folds run side by side; and the entries of the trainer's table that have no star.
+// Random netlists and damaged files folded and sorted by the product and by the reference, a folder and a sorter written
+// separately from the paper's text; files and what is made of them run side by side; and the entries of the trainer's table that have no star.
 mod damage;
 mod dice;
 mod files;
@@ -7,6 +7,7 @@ mod folds;
 mod netlists;
 mod pieces;
 mod runs;
+mod sorts;
 mod tally;
 
 use crate::dice::chance;
@@ -75,12 +76,13 @@ fn put_fresh(kind: Size, file: &mut [u8], seed: &mut u64) -> usize {
     netlists::put_netlist(file, seed, style)
 }
 
-// A netlist, and then the same damaged.
+// A netlist, the same with its nodes in any order, and the same damaged.
 fn try_netlist(kind: Size, seed: &mut u64, tally: &mut [u64]) {
     let mut room = [0u8; FILE_ROOM];
     let file: &mut [u8] = &mut room;
     let size = put_fresh(kind, file, seed);
     try_file(first(file, size), seed, tally);
+    sorts::try_mixed(first(file, size), *seed, tally);
     let left = damage::damage(file, seed, size);
     try_file(first(file, left), seed, tally);
 }

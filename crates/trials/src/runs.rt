@@ -1,4 +1,4 @@
-// A file and its fold run side by side: the outputs are compared phase by phase.
+// A file and its fold run side by side: the outputs are compared phase by phase. A sorted file beside the one that it was made from: step by step.
 use crate::dice::put_values;
 use crate::dice::roll;
 use crate::pieces::plus;
@@ -64,11 +64,11 @@ fn groups_of(steps: usize, phases: usize) -> usize {
 
 // ---- labels
 
-fn get_word(words: &[u16], at: usize) -> u16 {
+pub fn get_word(words: &[u16], at: usize) -> u16 {
     if at < words.len() { words[at] } else { 0 }
 }
 
-fn put_word(words: &mut [u16], at: usize, value: u16) {
+pub fn put_word(words: &mut [u16], at: usize, value: u16) {
     if at < words.len() {
         words[at] = value;
     }
@@ -230,8 +230,9 @@ fn run(file: &[u8], steps: usize, choices: &[u8], inputs: &[u8], shown: &mut [u8
     }
 }
 
-// The file's run by the product; whether it is the reference's.
+// The file's run by the product; whether it is the original's by the reference.
 fn try_original(
+    original: &[u8],
     file: &[u8],
     steps: usize,
     choices: &[u8],
@@ -241,7 +242,7 @@ fn try_original(
     let mut room = [0u8; ROOM];
     let again: &mut [u8] = &mut room;
     let done = run(file, steps, choices, inputs, shown);
-    reference::steps::run(file, steps, choices, inputs, again);
+    reference::steps::run(original, steps, choices, inputs, again);
     both(done, same(shown, again))
 }
 
@@ -357,7 +358,7 @@ fn try_both(file: &[u8], fold: &[u8], sizes: Sizes, values: &[u8], seed: &mut u6
     let shown: &mut [u8] = &mut room;
     let choices = first(values, sizes.unknown);
     let inputs = rest(values, sizes.unknown);
-    let original = try_original(file, sizes.steps, choices, inputs, shown);
+    let original = try_original(file, file, sizes.steps, choices, inputs, shown);
     let folded = try_folded(file, fold, sizes, values, shown, seed);
     Right {
         file: original,
@@ -387,4 +388,29 @@ pub fn try_run(file: &[u8], fold: &[u8], phases: usize, seed: &mut u64, tally: &
     let sizes = sizes_of(file, fold, steps, phases);
     let right = try_sized(file, fold, sizes, seed);
     count_run(steps, right, tally);
+}
+
+// ---- sorted files
+
+// Both have their inputs and registers in the same order, so both are given the same values.
+fn same_as_original(original: &[u8], sorted: &[u8], sizes: Sizes, values: &[u8]) -> bool {
+    let mut room = [0u8; ROOM];
+    let shown: &mut [u8] = &mut room;
+    let choices = first(values, sizes.unknown);
+    let inputs = rest(values, sizes.unknown);
+    try_original(original, sorted, sizes.steps, choices, inputs, shown)
+}
+
+// One run of both, over a few steps.
+pub fn try_sorted(original: &[u8], sorted: &[u8], seed: &mut u64, tally: &mut [u64]) {
+    let mut lists = [0u8; VALUES_ROOM];
+    let values: &mut [u8] = &mut lists;
+    let steps = roll(seed, 8);
+    let sizes = sizes_of(original, sorted, steps, 1);
+    let size = plus(sizes.unknown, times(steps, sizes.inputs));
+    put_values(values, seed, size);
+    let right = same_as_original(original, sorted, sizes, first(values, size));
+    add(tally, crate::tally::SORTED_RUNS, 1);
+    add(tally, crate::tally::SORTED_STEPS, steps);
+    hold(tally, right, crate::tally::SORT_RUNS);
 }

@@ -18,25 +18,47 @@ pub const SHOWN: usize = 30;
 
 pub const PAST_END: usize = 31;
 
+// Sorts by number, from here on as the folds above.
+pub const SORTS: usize = 32;
+
+// How many there are, and the runs and steps of the sorted files.
+pub const ALL_SORTS: usize = 56;
+
+pub const SORTED_RUNS: usize = 57;
+
+pub const SORTED_STEPS: usize = 58;
+
 // Differences, each kind by itself, from here on.
-pub const CHECKS: usize = 32;
+pub const CHECKS: usize = 59;
 
-pub const ANSWERS: usize = 33;
+pub const ANSWERS: usize = 60;
 
-pub const RESULTS: usize = 34;
+pub const RESULTS: usize = 61;
 
-pub const ENTRIES: usize = 35;
+pub const ENTRIES: usize = 62;
 
-pub const FILE_RUNS: usize = 36;
+pub const FILE_RUNS: usize = 63;
 
-pub const FOLD_RUNS: usize = 37;
+pub const FOLD_RUNS: usize = 64;
 
-pub const COUNTS: usize = 38;
+pub const COUNTS: usize = 65;
 
-pub const SHOWS: usize = 39;
+pub const SHOWS: usize = 66;
+
+pub const SORT_ANSWERS: usize = 67;
+
+pub const SORT_RESULTS: usize = 68;
+
+pub const SORT_WORKS: usize = 69;
+
+pub const UNACCEPTED: usize = 70;
+
+pub const UNSTABLE: usize = 71;
+
+pub const SORT_RUNS: usize = 72;
 
 // How many counts there are.
-pub const SLOTS: usize = 40;
+pub const SLOTS: usize = 73;
 
 pub fn count(tally: &[u64], at: usize) -> u64 {
     if at < tally.len() { tally[at] } else { 0 }
@@ -80,11 +102,12 @@ fn print_count(tally: &[u64], text: &[u8], at: usize) {
     print(text, count(tally, at));
 }
 
-fn print_refusals(tally: &[u64]) {
-    let end: usize = 17;
-    'numbers: for number in 1..end {
+// The refusals with numbers from `start` on and before `end`; those of number 0 are counted at `base`.
+fn print_refusals(tally: &[u64], base: usize, start: usize, end: usize) {
+    'numbers: for number in start..end {
+        let at = std::num::wrapping_add_usize(base, number);
         print(b"  refused ", number as u64);
-        print(b": ", count(tally, number));
+        print(b": ", count(tally, at));
         io::write_all(1, b"\n");
     }
 }
@@ -100,13 +123,23 @@ fn print_folds(tally: &[u64]) {
     print_count(tally, b"\nfolds ", FOLDS);
     print_count(tally, b"\n  done: ", 0);
     io::write_all(1, b"\n");
-    print_refusals(tally);
+    print_refusals(tally, 0, 1, 17);
 }
 
 fn print_runs(tally: &[u64]) {
     print_count(tally, b"clock entries compared ", CLOCKS);
     print_count(tally, b"\nruns of file and fold side by side ", RUNS);
     print_count(tally, b"\nsteps compared ", STEPS);
+}
+
+fn print_sorts(tally: &[u64]) {
+    print_count(tally, b"\nsorts ", ALL_SORTS);
+    print_count(tally, b"\n  done: ", SORTS);
+    io::write_all(1, b"\n");
+    print_refusals(tally, SORTS, 1, 11);
+    print_refusals(tally, SORTS, 22, 24);
+    print_count(tally, b"runs of file and sorted file ", SORTED_RUNS);
+    print_count(tally, b"\nsteps compared ", SORTED_STEPS);
 }
 
 fn print_file_differences(tally: &[u64]) {
@@ -129,6 +162,19 @@ fn print_run_differences(tally: &[u64]) {
         b"\n  in runs of the fold, beside the file: ",
         FOLD_RUNS,
     );
+}
+
+fn print_sort_differences(tally: &[u64]) {
+    print_count(tally, b"\n  in Sort's answer: ", SORT_ANSWERS);
+    print_count(tally, b"\n  in the sorted file's bytes: ", SORT_RESULTS);
+    print_count(tally, b"\n  in work after Sort: ", SORT_WORKS);
+    print_count(tally, b"\n  in Check of the sorted file: ", UNACCEPTED);
+    print_count(tally, b"\n  in the sorted file sorted again: ", UNSTABLE);
+    print_count(
+        tally,
+        b"\n  in runs of the sorted file, beside the file: ",
+        SORT_RUNS,
+    );
     io::write_all(1, b"\n");
 }
 
@@ -136,7 +182,9 @@ pub fn print_all(tally: &[u64]) {
     print_files(tally);
     print_folds(tally);
     print_runs(tally);
+    print_sorts(tally);
     print_file_differences(tally);
     print_fold_differences(tally);
     print_run_differences(tally);
+    print_sort_differences(tally);
 }

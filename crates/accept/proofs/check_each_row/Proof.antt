@@ -2,17 +2,17 @@
 -- Assumes nothing.
 use Prim.Native.Nat.{_-_, _≤_}
 use borrow.Author.Needs.{needs}
-use Rattle.questions.specs.Questions.{namesEarlier}
+use Rattle.row_questions.specs.RowTested.{operandBy}
 use Rattle.name_marks.proofs.EarlierLaws.{row-few, row-inside}
 use Rattle.accept.proofs.RowCheckLaws.{PassedRows, passed-none, all-rows, row-below, tests-read, sum-fits, rows-stop, rows-again, outputs-few, rows-no-output, rows-right}
 use Rattle.accept.proofs.check_each_row.Statement.{statement}
 use Rattle.accept.proofs.check_each_row.Tie as tie
 
 abbrev Inv-each : tie.InvT-each
-Inv-each file rows few marks₀ tally₀ row₀ marks tally row = (row ≤ rows) × PassedRows namesEarlier file tally few marks row
+Inv-each file rows unordered few marks₀ tally₀ row₀ marks tally row = (row ≤ rows) × PassedRows (operandBy unordered) file tally few marks row
 
 abbrev μ-each : tie.MeasureT-each
-μ-each file rows few marks₀ tally₀ row₀ marks tally row = rows - row
+μ-each file rows unordered few marks₀ tally₀ row₀ marks tally row = rows - row
 
 each-holds : tie.Need-each-holds Inv-each μ-each
 each-holds c = search (passed-none, needs)

@@ -8,14 +8,14 @@ use Rattle.reference.proofs.asking.ask_rows.Statement.{statement}
 use Rattle.reference.proofs.asking.ask_rows.Tie as tie
 
 abbrev Inv-rows : tie.InvT-rows
-Inv-rows file rows keys₀ at₀ keys at = (length keys ≡ length keys₀)
+Inv-rows file rows keys₀ any-order at₀ keys at = (length keys ≡ length keys₀)
 
 abbrev μ-rows : tie.MeasureT-rows
-μ-rows file rows keys₀ at₀ keys at = rows - at
+μ-rows file rows keys₀ any-order at₀ keys at = rows - at
 
 pub ask-rows-spec : {M : Type 1} → statement M
 ask-rows-spec =
     tie.close
     (tie.spec Inv-rows μ-rows (λ c. search needs) (λ c κs. search needs) (λ c κs. search needs) (λ c. search needs)
-    (λ c. search needs) (λ c κs. search needs) (λ c κs. search needs) (λ c κs. search needs) (λ c. search needs) (λ c. search needs)
-    (λ c. search needs) (λ c κs. search needs) (λ c. search needs) (λ c. search needs))
+    (λ c. search needs) (λ c κs. search needs) (λ c κs. search needs) (λ c κs. search needs) (λ c. search needs)
+    (λ c. search needs) (λ c. search needs) (λ c κs. search needs) (λ c. search needs) (λ c. search needs))

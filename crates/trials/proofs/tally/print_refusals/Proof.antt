@@ -6,14 +6,14 @@ use Rattle.trials.proofs.tally.print_refusals.Statement.{statement}
 use Rattle.trials.proofs.tally.print_refusals.Tie as tie
 
 abbrev Inv-numbers : tie.InvT-numbers
-Inv-numbers tally end number₀ t4 t5 t6 number = number ≤ number
+Inv-numbers tally base start end number₀ t7 t8 t9 number = number ≤ number
 
 abbrev μ-numbers : tie.MeasureT-numbers
-μ-numbers tally end number₀ t4 t5 t6 number = end - number
+μ-numbers tally base start end number₀ t7 t8 t9 number = end - number
 
 pub print-refusals-spec : {M : Type 1} → statement M
 print-refusals-spec =
     tie.close
-    (tie.spec Inv-numbers μ-numbers (λ c. search needs) (λ c. search needs) (λ c κs. search needs) (λ c. search needs)
-    (λ c κs. search needs) (λ c κs. search needs) (λ c. search needs) (λ c κs. search needs) (λ c. search needs) (λ c. search needs)
-    (λ c. search needs) (λ c. search needs))
+    (tie.spec Inv-numbers μ-numbers (λ c. search needs) (λ c κs. search needs) (λ c. search needs) (λ c κs. search needs)
+    (λ c. search needs) (λ c κs. search needs) (λ c κs. search needs) (λ c. search needs) (λ c κs. search needs)
+    (λ c. search needs) (λ c. search needs) (λ c. search needs) (λ c. search needs))

@@ -1,0 +1,2 @@
+-- The walk that looks for a loop.
+pub mod Walk

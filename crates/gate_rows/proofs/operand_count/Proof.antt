@@ -1,0 +1,24 @@
+-- `operand_count` meets its contract: the row's kind byte says how many operands it has.
+-- Assumes nothing.
+use borrow.Author.Needs.{needs}
+use Rattle.gate_rows.proofs.OperandLaws.{kind-inside, and-operands, xor-operands, mux-operands, no-operands}
+use Rattle.gate_rows.proofs.operand_count.Statement.{statement}
+use Rattle.gate_rows.proofs.operand_count.Tie as tie
+
+shared-slice-read-kind : tie.Need-shared-slice-read-kind
+shared-slice-read-kind c = search kind-inside
+
+returns : tie.Need-returns
+returns c = search (and-operands, needs)
+
+returns-2 : tie.Need-returns-2
+returns-2 c = search (xor-operands, needs)
+
+returns-3 : tie.Need-returns-3
+returns-3 c = search (mux-operands, needs)
+
+returns-4 : tie.Need-returns-4
+returns-4 c = search (no-operands, needs)
+
+pub operand-count-spec : {M : Type 1} → statement M
+operand-count-spec = tie.close (tie.spec (λ c κs. search needs) shared-slice-read-kind returns returns-2 returns-3 returns-4)

@@ -1,0 +1,2 @@
+-- The gates that name a node, and their lists.
+pub mod Users

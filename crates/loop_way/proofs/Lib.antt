@@ -1,0 +1,2 @@
+-- Laws of ways.
+pub mod WayLaws

@@ -1,0 +1,80 @@
+-- A way is made row by row, until its last gate names a row that it has.
+-- Assumes nothing.
+use Prim.Native.Nat.{ℕ, _+_, _*_, _<_, _≤_}
+use mathlib.Core.Path.{_≡_, refl}
+use mathlib.Core.List.{List}
+use native.Mathlib.Omega.{arith}
+use native.Mathlib.Decide.{decLt}
+use lib.ListN.{length}
+use Rattle.memory.specs.Slots.{slotAt, setSlot}
+use Rattle.memory.proofs.SlotLaws.{slot-same, slot-other}
+use Rattle.netlist.specs.Limits.{sortWorkBytes}
+use Rattle.netlist.specs.Rows.{Row}
+use Rattle.netlist.specs.FileFormat.{netlistOf}
+use Rattle.netlist.specs.WellFormed.{UnorderedRows}
+use Rattle.blockfile.specs.Ready.{Ready}
+use Rattle.blockfile.specs.declared.count.Counts.{Counts}
+use Rattle.accept.specs.declared.Acceptance.{Acceptance}
+use Rattle.accept.specs.declared.Acceptance.the-variants.{Accepted}
+use Rattle.accept.specs.Refusals.{CheckedUnordered}
+use Rattle.accept.proofs.RefusalLaws.{unordered-ready}
+use Rattle.gate_loops.specs.Walk.{Unsettled}
+use Rattle.loop_way.specs.Ways.{Names, Chain, IsWay, ClosedAt}
+
+-- No slot is a chain, and no way.
+no-chain : (rows : List Row) (list : List ℕ) → Chain rows list 0
+no-chain rows list = record { inside = λ x l. absurd (omega arith); each = λ x l. absurd (omega arith) }
+
+pub no-way : (rows : List Row) (list : List ℕ) (n start : ℕ) → n ≡ 0 → IsWay rows list n start
+no-way rows list n start e = rw e (record { chain = no-chain rows list; early = λ l. absurd (omega arith); closed = λ x l. absurd (omega arith) })
+
+-- A slot below n has the row.
+pub closed-at : (list : List ℕ) (n row start : ℕ) → start < n → (start < n → slotAt list start ≡ row) → ClosedAt list n row n start
+closed-at list n row start l h = record { all = λ _. refl; early = λ _. l; has = λ _. h l }
+
+-- The first n slots are a chain, whose last gate names the row that is next.
+pub record Walking (rows : List Row) (list : List ℕ) (n row : ℕ) : Type 0 where
+  pub chain : Chain rows list n
+  pub inside : row < length rows
+  pub named : (x : ℕ) → x + 1 ≡ n → Names rows (slotAt list x) row
+
+pub walk-starts : (f list : List ℕ) (m row : ℕ) → Ready UnorderedRows f m → row < m → Walking (netlistOf f) list 0 row
+walk-starts f list m row R l = let c = R .file .count in record { chain = no-chain (netlistOf f) list; inside = omega arith; named = λ x k. absurd (omega arith) }
+
+-- The row is put in slot n.
+module _ {f list list′ : List ℕ} {m n row : ℕ} (R : Ready UnorderedRows f m) (W : Walking (netlistOf f) list n row) (put : list′ ≡ setSlot list n row) (room : 2 * m ≤ length list) (less : n < m) where
+  put-here : slotAt list′ n ≡ row
+  put-here = let c = R .file .count in let few = R .file .few in let i = W .inside in rw put (slot-same list n row (omega arith) (omega arith))
+
+  put-before : (x : ℕ) → x < n → slotAt list′ x ≡ slotAt list x
+  put-before x l = rw put (slot-other list n row x (λ e. omega arith))
+
+  put-chain : Chain (netlistOf f) list′ (n + 1)
+  put-chain = record {
+    inside = λ x l. elim (decLt x n) [
+      | yes k ↦ rw (put-before x k) (W .chain .inside x k)
+      | no k ↦ (let e : x ≡ n = omega arith in rw e (rw put-here (W .inside)))
+    ];
+    each = λ x l. elim (decLt (x + 1) n) [
+      | yes k ↦ rw (put-before x (omega arith)) (rw (put-before (x + 1) k) (W .chain .each x k))
+      | no k ↦ (let e : x + 1 ≡ n = omega arith in rw (put-before x (omega arith)) (rw e (rw put-here (W .named x e))))
+    ];
+  }
+
+  module _ {w : List ℕ} {next : ℕ} (U : Unsettled (netlistOf f) w row next) (some : ¬ (next ≡ 0)) where
+    names-next : (x : ℕ) → x + 1 ≡ n + 1 → Names (netlistOf f) (slotAt list′ x) next
+    names-next x e = let q : x ≡ n = omega arith in rw q (rw put-here (U .some some .0))
+
+    pub walks-on : Walking (netlistOf f) list′ (n + 1) next
+    walks-on = record { chain = put-chain; inside = U .inside; named = names-next }
+
+    pub way-closed : (count start : ℕ) → ClosedAt list′ (n + 1) next count start → IsWay (netlistOf f) list′ count start
+    way-closed count start C = elim (decLt 0 count) [
+      | no k ↦ no-way (netlistOf f) list′ count start (omega arith)
+      | yes k ↦ (let e = C .all k in
+          rw e (record { chain = put-chain; early = λ _. C .early k; closed = λ x l. rw (C .has k) (names-next x l) }))
+    ]
+
+-- A list as long as Sort's work has a slot for each row of an accepted file.
+pub slots-enough : (file list : List ℕ) (a : Acceptance) → CheckedUnordered file a → (n : ℕ) (c : Counts) → a ≡ Accepted n c → sortWorkBytes ≤ length list → 2 * n ≤ length list
+slots-enough file list a A n c e room = let few = unordered-ready file a A n c e .file .few in omega arith

@@ -1,0 +1,2 @@
+-- The way to a loop of gates.
+pub mod Ways

@@ -1,0 +1,105 @@
+// The way from the lowest gate that is never placed to the loop of gates that it waits for, for whoever is to mend it.
+ghost use mathlib.Core.Path.{_≡_};
+ghost use Prim.Native.Nat.{_*_, _<_, _≤_};
+ghost use lib.ListN.{length};
+ghost use Rattle.memory.specs.Slots.{slotAt};
+ghost use Rattle.netlist.specs.FileFormat.{netlistOf};
+ghost use Rattle.netlist.specs.WellFormed.{UnorderedRows};
+ghost use Rattle.blockfile.specs.Ready.{Ready};
+ghost use Rattle.loop_way.specs.Ways.{ClosedAt, IsWay};
+use accept::Acceptance;
+use netlist::SORT_WORK_BYTES;
+
+// How many gates the way has, and which of them the last one names, counted from 0: there the loop starts. Both are 0 if there is no way.
+pub struct Way {
+    pub count: usize,
+    pub start: usize,
+}
+
+fn no_way() -> Way
+    ensures { λ r. ⌜ (r .count ≡ 0) × (r .start ≡ 0) ⌝ }
+{
+    Way { count: 0, start: 0 }
+}
+
+// The first of the `count` slots that has this row; `count` if none has.
+fn index_of(list: &[u8], count: usize, row: usize) -> usize
+    requires { ⌜ 2 * count ≤ length (now list) ⌝ }
+    ensures { λ r. ⌜ (r < count → slotAt (now (list .entry)) r ≡ row) ⌝ }
+{
+    let mut index = 0;
+    'slots: while index < count {
+        if memory::slot_at(list, index) == row {
+            return index;
+        }
+        index += 1;
+    }
+    count
+}
+
+// The way of the gates in these slots, if the last one names the row in one of them.
+fn close(list: &[u8], count: usize, row: usize) -> Way
+    requires { ⌜ 2 * count ≤ length (now list) ⌝ }
+    ensures { λ r. ⌜ ClosedAt (now (list .entry)) count row (r .count) (r .start) ⌝ }
+{
+    let start = index_of(list, count, row);
+    if start < count {
+        Way {
+            count: count,
+            start: start,
+        }
+    } else {
+        no_way()
+    }
+}
+
+// From gate to gate, as the walk went that left these slots: an open row has 1 + the row that led to it.
+fn follow(file: &[u8], slots: &[u8], rows: usize, first: usize, list: &mut [u8]) -> Way
+    requires { ⌜ Ready UnorderedRows (now file) rows × (first < rows) ⌝ }
+    requires { ⌜ (2 * rows ≤ length (now slots)) × (2 * rows ≤ length (now list)) ⌝ }
+    ensures { λ r. ⌜ IsWay (netlistOf (now (file .entry))) (now (list .exit)) (r .count) (r .start) ⌝ }
+{
+    let mut row = first;
+    let mut count = 0;
+    'walk: while count < rows {
+        memory::set_slot(&mut *list, count, row);
+        count += 1;
+        let next = gate_loops::unsettled_operand(file, slots, rows, row);
+        if next == 0 {
+            return no_way();
+        }
+        let opened = row + 1;
+        if memory::slot_at(slots, next) != opened {
+            return close(list, count, next);
+        }
+        row = next;
+    }
+    no_way()
+}
+
+// The way in a file of this many rows.
+fn find_in(file: &[u8], rows: usize, list: &mut [u8]) -> Way
+    requires { ⌜ Ready UnorderedRows (now file) rows × (2 * rows ≤ length (now list)) ⌝ }
+    ensures { λ r. ⌜ IsWay (netlistOf (now (file .entry))) (now (list .exit)) (r .count) (r .start) ⌝ }
+{
+    let mut slots = [0u8; SORT_WORK_BYTES];
+    let first = gate_loops::find_loop(file, &mut slots, rows);
+    if first < rows {
+        follow(file, &slots, rows, first, list)
+    } else {
+        no_way()
+    }
+}
+
+// The rows of the way in slots of `list`, which needs as many bytes as Sort's work. There is none if the file is refused for anything else than a loop.
+pub fn find_way(file: &[u8], list: &mut [u8]) -> Way
+    ensures { λ r. ⌜ IsWay (netlistOf (now (file .entry))) (now (list .exit)) (r .count) (r .start) ⌝ }
+{
+    if list.len() < SORT_WORK_BYTES {
+        return no_way();
+    }
+    match accept::accept_unordered(file) {
+        Acceptance::Refused(_) => no_way(),
+        Acceptance::Accepted { rows, counts: _ } => find_in(file, rows, list),
+    }
+}

@@ -1,0 +1,3 @@
+-- Rows written at their new places, and the outcome of Sort.
+pub mod WriteLaws
+pub mod OutcomeLaws

@@ -1,0 +1,209 @@
+// Sort of files whose nodes stand in any order, by the product and by the reference: answers, every byte of result and work. What is sorted is checked, sorted again, and run beside the file.
+use crate::dice::any_literal;
+use crate::dice::chance;
+use crate::dice::roll;
+use crate::dice::roll_from;
+use crate::files::of_file;
+use crate::files::said;
+use crate::folds::FILL;
+use crate::folds::RESULT_ROOM;
+use crate::pieces::cells;
+use crate::pieces::plus;
+use crate::runs::get_word;
+use crate::runs::put_word;
+use crate::tally::add;
+use crate::tally::hold;
+use reference::asking::Verdict;
+use reference::rows::count_kind;
+use reference::rows::row_at;
+use reference::rows::rows_of;
+use reference::sorting::Sorted;
+use sort::SortRefusal;
+use sort::Sorting;
+use text::both;
+use text::bytes::first;
+use text::bytes::least;
+use text::bytes::same;
+
+const FILE_ROOM: usize = 66560;
+
+const LEAST_WORK: usize = 16384;
+
+const WORK_ROOM: usize = 16400;
+
+// ---- nodes in any order
+
+// A row that changes places with this one: a node after the constant, one time in `rarely`, and else the row itself.
+fn partner(seed: &mut u64, nodes: usize, at: usize, rarely: usize) -> usize {
+    let any = roll_from(seed, 1, at);
+    let moved = chance(seed, rarely);
+    if at == 0 || at >= nodes {
+        return at;
+    }
+    if moved { any } else { at }
+}
+
+// The new number of each row and 1 more.
+fn mix(seed: &mut u64, nodes: usize, rows: usize, rarely: usize, numbers: &mut [u16]) {
+    'rows: for at in 0..rows {
+        let other = partner(seed, nodes, at, rarely);
+        let number = (plus(at, 1) % 65536) as u16;
+        put_word(numbers, at, get_word(numbers, other));
+        put_word(numbers, other, number);
+    }
+}
+
+// A gate's operand becomes any literal; other rows stay.
+fn redraw(file: &mut [u8], seed: &mut u64, nodes: usize) {
+    let at = roll(seed, nodes);
+    let row = row_at(file, at);
+    let literal = any_literal(seed, nodes);
+    let new = match roll(seed, 3) {
+        0 => cells(row.kind, 0, literal, row.b, row.c),
+        1 => cells(row.kind, 0, row.a, literal, row.c),
+        _ => cells(5, 0, row.a, row.b, literal),
+    };
+    if row.kind < 3 {
+        return;
+    }
+    crate::damage::put_damaged(file, at, new);
+}
+
+fn redraw_some(file: &mut [u8], seed: &mut u64, nodes: usize, count: usize) {
+    'gates: for i in 0..count {
+        redraw(file, seed, nodes);
+    }
+}
+
+// All nodes of the file change places, or a few, and some operands are drawn again, so that there may be loops.
+fn put_mixed(file: &[u8], seed: &mut u64, mixed: &mut [u8]) {
+    let mut room = [0u16; 8192];
+    let numbers: &mut [u16] = &mut room;
+    let rows = rows_of(file);
+    let nodes = std::num::wrapping_sub_usize(rows, count_kind(file, rows, 6));
+    let rarely = if chance(seed, 4) { 16 } else { 1 };
+    mix(seed, nodes, rows, rarely, numbers);
+    reference::sorting::put_moved(file, rows, numbers, mixed);
+    reference::writer::close(mixed, rows);
+    let count = roll(seed, 8);
+    redraw_some(mixed, seed, nodes, count);
+}
+
+// ---- both
+
+fn of_refusal(refusal: SortRefusal) -> Verdict {
+    match refusal {
+        SortRefusal::File(file) => of_file(file),
+        SortRefusal::Memory => said(23, 0),
+        SortRefusal::Loop { row } => said(22, row),
+    }
+}
+
+fn sorted(verdict: Verdict, rows: u32) -> Sorted {
+    Sorted {
+        number: verdict.number,
+        place: verdict.place,
+        rows: rows,
+    }
+}
+
+// The product's answer in the reference's form.
+fn of_sort(answer: Sorting) -> Sorted {
+    match answer {
+        Sorting::Done { rows } => sorted(said(0, 0), rows),
+        Sorting::Refused(refusal) => sorted(of_refusal(refusal), 0),
+    }
+}
+
+// What both answered is counted and compared.
+fn compare_answers(answer: Sorted, right: Sorted, tally: &mut [u64]) {
+    let verdict = both(answer.number == right.number, answer.place == right.place);
+    add(tally, crate::tally::ALL_SORTS, 1);
+    add(tally, plus(crate::tally::SORTS, right.number as usize), 1);
+    hold(
+        tally,
+        both(verdict, answer.rows == right.rows),
+        crate::tally::SORT_ANSWERS,
+    );
+}
+
+// How much is lent: at times one byte too few, or some more.
+fn lent_of(seed: &mut u64, needed: usize) -> usize {
+    match roll(seed, 24) {
+        0 => std::num::wrapping_sub_usize(needed, 1),
+        1 | 2 | 3 => plus(needed, 16),
+        _ => needed,
+    }
+}
+
+// Sort by the reference, in memories that are filled alike, and of which as much is lent; what is left in them is compared.
+fn sort_again(
+    file: &[u8],
+    result_end: usize,
+    work_end: usize,
+    result: &[u8],
+    work: &[u8],
+    tally: &mut [u64],
+) -> Sorted {
+    let mut results = [FILL; RESULT_ROOM];
+    let mut works = [FILL; WORK_ROOM];
+    let expected: &mut [u8] = &mut results;
+    let cleared: &mut [u8] = &mut works;
+    let written = least(result_end, expected.len());
+    let used = least(work_end, cleared.len());
+    let right = reference::sorting::sort(file, &mut expected[0..written], &mut cleared[0..used]);
+    hold(tally, same(result, expected), crate::tally::SORT_RESULTS);
+    hold(tally, same(work, cleared), crate::tally::SORT_WORKS);
+    right
+}
+
+fn sort_both(file: &[u8], seed: &mut u64, result: &mut [u8], tally: &mut [u64]) -> Sorted {
+    let mut works = [FILL; WORK_ROOM];
+    let work: &mut [u8] = &mut works;
+    let result_end = least(lent_of(seed, file.len()), result.len());
+    let work_end = least(lent_of(seed, LEAST_WORK), work.len());
+    let answer = phasefold::sort(file, &mut result[0..result_end], &mut work[0..work_end]);
+    let right = sort_again(file, result_end, work_end, result, work, tally);
+    compare_answers(of_sort(answer), right, tally);
+    right
+}
+
+// ---- what is sorted
+
+fn is_stable(sorted: &[u8]) -> bool {
+    let mut results = [FILL; RESULT_ROOM];
+    let mut works = [FILL; WORK_ROOM];
+    let result: &mut [u8] = &mut results;
+    let work: &mut [u8] = &mut works;
+    let end = least(sorted.len(), result.len());
+    phasefold::sort(sorted, &mut result[0..end], work);
+    same(first(result, end), sorted)
+}
+
+fn try_sorted(file: &[u8], sorted: &[u8], seed: &mut u64, tally: &mut [u64]) {
+    let accepted = crate::files::check_right(sorted, said(0, 0));
+    hold(tally, accepted, crate::tally::UNACCEPTED);
+    hold(tally, is_stable(sorted), crate::tally::UNSTABLE);
+    crate::runs::try_sorted(file, sorted, seed, tally);
+}
+
+fn try_sort(file: &[u8], seed: &mut u64, tally: &mut [u64]) {
+    let mut results = [FILL; RESULT_ROOM];
+    let result: &mut [u8] = &mut results;
+    let answer = sort_both(file, seed, result, tally);
+    if answer.number == 0 {
+        try_sorted(file, first(result, file.len()), seed, tally);
+    }
+}
+
+// The file with its nodes in any order, and then the same damaged; no seed is moved.
+pub fn try_mixed(file: &[u8], seed: u64, tally: &mut [u64]) {
+    let mut room = [0u8; FILE_ROOM];
+    let mixed: &mut [u8] = &mut room;
+    let mut own = seed;
+    let size = file.len();
+    put_mixed(file, &mut own, mixed);
+    try_sort(first(mixed, size), &mut own, tally);
+    let left = crate::damage::damage(mixed, &mut own, size);
+    try_sort(first(mixed, left), &mut own, tally);
+}
