@@ -18,7 +18,8 @@ ghost use Rattle.gate_users.specs.Users.{Listed};
 ghost use Rattle.gate_numbers.specs.Numbers.{placedSlot, isPlacedIn, ofKinds, KindsNumbered, SourcesNumbered, gateOf, Woken, Placed, NextGate, GatePlaced, nodeOrder, Numbered};
 use blockfile::both;
 
-const PLACED: usize = 32768;
+// A placed row's slot is this, plus its new number.
+pub const PLACED: usize = 32768;
 
 // Whether the row is a gate, and all that it names is placed.
 fn operands_placed(file: &[u8], slots: &[u8], rows: usize, row: usize) -> bool

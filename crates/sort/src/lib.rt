@@ -15,10 +15,8 @@ ghost use Rattle.sort.specs.SortOutcome.{Sorted};
 use accept::Acceptance;
 use accept::FileRefusal;
 use blockfile::both;
+use gate_numbers::PLACED;
 use netlist::SORT_WORK_BYTES;
-
-// A placed row's slot is this, plus its new number.
-const PLACED: usize = 32768;
 
 // What a file is not sorted for; of a file, with its place.
 pub enum SortRefusal {
@@ -66,7 +64,7 @@ fn place_row(file: &[u8], result: &mut [u8], slots: &[u8], rows: usize, row: usi
     blockfile::write_row(result, to, moved);
 }
 
-// Each row of the file is.
+// All rows of the file are, one after the other.
 fn place_rows(file: &[u8], result: &mut [u8], slots: &[u8], rows: usize)
     requires { ⌜ Placeable (now file) (now slots) rows × (length (now file) ≤ length (now result)) ⌝ }
     ensures { λ _. ⌜ RowsStand (sortedNetlist (netlistOf (now (file .entry)))) (now (result .exit)) ⌝ }
