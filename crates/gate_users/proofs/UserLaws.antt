@@ -7,7 +7,7 @@ use mathlib.Core.List.{List}
 use native.Mathlib.Omega.{arith}
 use native.Mathlib.Decide.{decLt}
 use native.Mathlib.Numerals.{add-one}
-use Rattle.memory.proofs.TestLaws.{cond-case, fails, last-or}
+use Rattle.memory.proofs.TestLaws.{cond-case, last-or}
 use Rattle.netlist.specs.Rows.{Row}
 use Rattle.netlist.specs.WellFormed.{UnorderedRows}
 use Rattle.ordering.specs.GateOrder.{isIn, operandsOf}
@@ -46,14 +46,6 @@ module _ (rows : List Row) (y : ℕ) where
       (λ _. omega arith)
       (λ f. last-or x m h (λ l. last-above m x l e) (λ q. absurd (false≢true (sym f ∙ ap (λ (z : ℕ). uses rows z y) (sym q) ∙ e))))
 
-  pub last-between : (m x : ℕ) → lastUser rows y m < x → x < m → uses rows x y ≡ false
-  last-between m x h l = fails (uses rows x y) (λ e. omega (arith, last-above m x l e))
-
   module _ (U : UnorderedRows rows) where
     pub constant-uses : uses rows 0 y ≡ false
     constant-uses = ap (λ (r : Row). isIn y (operandsOf r)) (U .constant-first)
-
-    -- If it is 0, no row below m uses y.
-    pub last-none : (m : ℕ) → lastUser rows y m ≡ 0 → (x : ℕ) → x < m → uses rows x y ≡ false
-    last-none m z zero l = constant-uses
-    last-none m z (suc x) l = last-between m (suc x) (omega arith) l
