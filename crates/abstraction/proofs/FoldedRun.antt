@@ -10,10 +10,10 @@ use lib.Dec.{eqb}
 use lib.ListN.{length, getD}
 use Rattle.ternary.specs.Ternary.{Ternary}
 use Rattle.ternary.proofs.RuleLaws.{Covers}
-use Rattle.netlist.specs.Rows.{Row, constant, input, register, andGate, xorGate, muxGate, output, encodeRow, rowAt, kindOf, nameOf, labelOf, phaseOf, hasName, isRegister, isOutput, onRegister, onOutput, mapLiterals, faninNodes}
+use Rattle.netlist.specs.Rows.{Row, constant, input, register, andGate, xorGate, muxGate, output, encodeRow, rowAt, kindOf, labelOf, phaseOf, hasName, isRegister, isOutput, onRegister, onOutput, faninNodes}
 use Rattle.netlist.specs.Simulation.{boolLogic, valueAt, runState, runValue}
-use Rattle.netlist.proofs.RowLaws.{named-alike, RowIn, next-wider}
-use Rattle.netlist.specs.WellFormed.{SameName, OperandsBelow, Ordered, NextBelow, WellFormed, EachBelow}
+use Rattle.netlist.proofs.RowLaws.{named-alike, RowIn, next-wider, Alike, alike, map-alike}
+use Rattle.netlist.specs.WellFormed.{OperandsBelow, Ordered, NextBelow, WellFormed, EachBelow}
 use Rattle.netlist.proofs.SimulationLaws.{held, state-at}
 use Rattle.abstraction.specs.Unrolling.{imageLiteral, patchNext, unrollPhases, unrolledNetlist}
 use Rattle.abstraction.specs.Compaction.{isConeRoot, isMarked, coneOfInfluence, newIndex, renumberLiteral}
@@ -23,23 +23,6 @@ use Rattle.abstraction.proofs.UnrolledRun.{whole-front, whole-back, who
 use Rattle.abstraction.proofs.Provenance.{Source, phase-before, unroll-named, unroll-nodes}
 use Rattle.abstraction.proofs.CompactionLaws.{renumbered, ClosedUnderFanin, KeptRow, kept, kept-at, kept-lt, kept-from, register-same, value-same}
 use Rattle.abstraction.proofs.ConeLaws.{cone-length, cone-closed, cone-root}
-
--- Rows that differ in their literals alone.
-pub record Alike (r s : Row) : Type 0 where
-  pub name : SameName r s
-  pub reset : encodeRow r .reset ≡ encodeRow s .reset
-
-alike : (r s : Row) → kindOf r ≡ kindOf s → nameOf r ≡ nameOf s → encodeRow r .reset ≡ encodeRow s .reset → Alike r s
-alike r s k n z = record { name = record { kind = k; label = ap (λ (x : ℕ × ℕ). x .0) n; phase = ap (λ (x : ℕ × ℕ). x .1) n }; reset = z }
-
-pub map-alike : (f : ℕ → ℕ) (r : Row) → Alike (mapLiterals f r) r
-map-alike f constant = alike _ _ refl refl refl
-map-alike f (input _ _) = alike _ _ refl refl refl
-map-alike f (register r n l) = alike (register r (f n) l) (register r n l) refl refl refl
-map-alike f (andGate a b) = alike (andGate (f a) (f b)) (andGate a b) refl refl refl
-map-alike f (xorGate a b) = alike (xorGate (f a) (f b)) (xorGate a b) refl refl refl
-map-alike f (muxGate a b c) = alike (muxGate (f a) (f b) (f c)) (muxGate a b c) refl refl refl
-map-alike f (output a l p) = alike (output (f a) l p) (output a l p) refl refl refl
 
 pub patch-alike : (images : List ℕ) (r : Row) → Alike (patchNext images r) r
 patch-alike images constant = alike _ _ refl refl refl

@@ -11,8 +11,8 @@ use lib.Dec.{eqb}
 use lib.ListN.{length, length-map, List·getD-map}
 use Rattle.memory.specs.Lists.{joinBelow}
 use Rattle.ternary.specs.Ternary.{Ternary}
-use Rattle.netlist.specs.Rows.{Row, constant, input, register, andGate, xorGate, muxGate, output, encodeRow, rowAt, kindOf, phaseOf, hasName, isOutput, onRegister, onOutput, faninNodes}
-use Rattle.netlist.proofs.RowLaws.{named-alike, unnamed}
+use Rattle.netlist.specs.Rows.{Row, constant, input, register, andGate, xorGate, muxGate, output, rowAt, kindOf, phaseOf, hasName, isOutput, onRegister, onOutput, faninNodes}
+use Rattle.netlist.proofs.RowLaws.{named-alike, unnamed, Alike, map-alike, reset-alike, same-names}
 use Rattle.netlist.specs.WellFormed.{SameName, NamesDistinct, FileShape, OperandsBelow, NextBelow, ResetIn, NamesNode, OnLiterals, FoldableRows}
 use Rattle.abstraction.specs.Unrolling.{patchNext, phaseOutputs, unrolledNetlist}
 use Rattle.abstraction.specs.Compaction.{isConeRoot, isMarked, newIndex, renumberLiteral, Reached}
@@ -21,27 +21,7 @@ use Rattle.abstraction.proofs.UnrolledRun.{outputs-each, whole-front, w
 use Rattle.abstraction.proofs.Provenance.{distinct-append, unroll-named, unroll-nodes, outputs-named}
 use Rattle.abstraction.proofs.CompactionLaws.{renumbered, AllMarked, index-mono, kept-ordered}
 use Rattle.abstraction.proofs.ConeLaws.{cone-length, cone-root, cone-exact}
-use Rattle.abstraction.proofs.FoldedRun.{Alike, patch-alike, map-alike, whole, made, last, cone, folded, ordered, closed, whole-next, whole-fanin, folded-at, folded-lt, folded-from, folded-is, folded-alike, origin, output-kept}
-
--- A reset is in range if it is that of a row whose reset is.
-reset-alike : (r s : Row) → kindOf r ≡ kindOf s → encodeRow r .reset ≡ encodeRow s .reset → ResetIn s → ResetIn r
-reset-alike constant s k e h = tt
-reset-alike (input _ _) s k e h = tt
-reset-alike (register r n l) constant k e h = absurd (omega arith)
-reset-alike (register r n l) (input _ _) k e h = absurd (omega arith)
-reset-alike (register r n l) (register r′ n′ l′) k e h = omega (arith, e, h)
-reset-alike (register r n l) (andGate _ _) k e h = absurd (omega arith)
-reset-alike (register r n l) (xorGate _ _) k e h = absurd (omega arith)
-reset-alike (register r n l) (muxGate _ _ _) k e h = absurd (omega arith)
-reset-alike (register r n l) (output _ _ _) k e h = absurd (omega arith)
-reset-alike (andGate _ _) s k e h = tt
-reset-alike (xorGate _ _) s k e h = tt
-reset-alike (muxGate _ _ _) s k e h = tt
-reset-alike (output _ _ _) s k e h = tt
-
--- Rows that have the names of two rows with one name.
-same-names : (r r′ s s′ : Row) → SameName r r′ → SameName s s′ → SameName r s → SameName r′ s′
-same-names r r′ s s′ a b e = record { kind = sym (a .kind) ∙ e .kind ∙ b .kind; label = sym (a .label) ∙ e .label ∙ b .label; phase = sym (a .phase) ∙ e .phase ∙ b .phase }
+use Rattle.abstraction.proofs.FoldedRun.{patch-alike, whole, made, last, cone, folded, ordered, closed, whole-next, whole-fanin, folded-at, folded-lt, folded-from, folded-is, folded-alike, origin, output-kept}
 
 module _ (rows : List Row) (ok : FoldableRows rows) (clock : ℕ → ℕ → Ternary) (M : ℕ) where
   abbrev N : ℕ

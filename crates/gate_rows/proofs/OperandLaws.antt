@@ -82,15 +82,6 @@ module _ (f : List ℕ) (row : ℕ) (H : HasRows f (length (netlistOf f))) (h : 
   count-of : (k o : ℕ) → o ≡ rowOffset row → k ≡ byteAt f o → length operands ≡ operandCount k
   count-of k o p e = count-is ∙ ap operandCount (sym (e ∙ ap (byteAt f) p))
 
-  pub and-operands : (k o : ℕ) → o ≡ rowOffset row → k ≡ byteAt f o → k ≡ 3 → 2 ≡ length operands
-  and-operands k o p e q = sym (count-of k o p e ∙ ap operandCount q)
-
-  pub xor-operands : (k o : ℕ) → o ≡ rowOffset row → k ≡ byteAt f o → k ≡ 4 → 2 ≡ length operands
-  xor-operands k o p e q = sym (count-of k o p e ∙ ap operandCount q)
-
-  pub mux-operands : (k o : ℕ) → o ≡ rowOffset row → k ≡ byteAt f o → k ≡ 5 → 3 ≡ length operands
-  mux-operands k o p e q = sym (count-of k o p e ∙ ap operandCount q)
-
   pub no-operands : (o : ℕ) → o ≡ rowOffset row → (byteAt f o ≡ 3 → ⊥) → (byteAt f o ≡ 4 → ⊥) → (byteAt f o ≡ 5 → ⊥) → 0 ≡ length operands
   no-operands o p x y z = sym (count-of (byteAt f o) o p refl ∙ none-of (byteAt f o) x y z)
 
@@ -117,6 +108,10 @@ module _ (f : List ℕ) (row : ℕ) (H : HasRows f (length (netlistOf f))) (h : 
         ∙ field-is index index-few in
         let x : at ≡ rowOffset row + 2 + 2 * index = omega (arith, p, q) in
         ap (λ (y : ℕ). y / 2) (e ∙ ap (u16At f) x) ∙ sym is
+
+-- A row of kind m.
+pub operands-of : (m : ℕ) (f : List ℕ) (row : ℕ) → HasRows f (length (netlistOf f)) → row < length (netlistOf f) → (k o : ℕ) → o ≡ rowOffset row → k ≡ byteAt f o → k ≡ m → operandCount m ≡ length (operandsOf (rowAt (netlistOf f) row))
+operands-of m f row H h k o p e q = sym (count-of f row H h k o p e ∙ ap operandCount q)
 
 pub half-small : (v : ℕ) → v < 2 ^ 16 → v / 2 < 2 ^ 15
 half-small v h = omega (arith, h)

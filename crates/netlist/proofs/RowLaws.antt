@@ -13,8 +13,8 @@ use lib.Seq.{getD-append-add}
 use Rattle.memory.proofs.TestLaws.{and-true, last-or}
 use Rattle.memory.specs.Lists.{joinBelow}
 use Rattle.memory.proofs.ListLaws.{first-is, first-least}
-use Rattle.netlist.specs.Rows.{Row, constant, input, register, andGate, xorGate, muxGate, output, encodeRow, decodeRow, rowAt, kindOf, nameOf, labelOf, phaseOf, hasName, isNamed, isOutput, isUnknown, firstRow, HasRow, rowFromFields}
-use Rattle.netlist.specs.WellFormed.{EachRow, NextBelow, WellFormed, FoldableRows}
+use Rattle.netlist.specs.Rows.{Row, constant, input, register, andGate, xorGate, muxGate, output, encodeRow, decodeRow, rowAt, kindOf, nameOf, labelOf, phaseOf, hasName, isNamed, isOutput, isUnknown, firstRow, HasRow, rowFromFields, mapLiterals}
+use Rattle.netlist.specs.WellFormed.{EachRow, NextBelow, ResetIn, SameName, WellFormed, FoldableRows}
 
 -- ---- fields
 
@@ -189,3 +189,41 @@ next-wider m n h (output _ _ _) b = tt
 
 pub well-formed : (rows : List Row) → FoldableRows rows → WellFormed rows
 well-formed rows F = record { ordered = F .checked .operands; nexts = F .checked .nexts; phases = F .unphased }
+
+-- ---- rows that differ in their literals alone
+
+pub record Alike (r s : Row) : Type 0 where
+  pub name : SameName r s
+  pub reset : encodeRow r .reset ≡ encodeRow s .reset
+
+pub alike : (r s : Row) → kindOf r ≡ kindOf s → nameOf r ≡ nameOf s → encodeRow r .reset ≡ encodeRow s .reset → Alike r s
+alike r s k n z = record { name = record { kind = k; label = ap (λ (x : ℕ × ℕ). x .0) n; phase = ap (λ (x : ℕ × ℕ). x .1) n }; reset = z }
+
+pub map-alike : (f : ℕ → ℕ) (r : Row) → Alike (mapLiterals f r) r
+map-alike f constant = alike _ _ refl refl refl
+map-alike f (input _ _) = alike _ _ refl refl refl
+map-alike f (register r n l) = alike (register r (f n) l) (register r n l) refl refl refl
+map-alike f (andGate a b) = alike (andGate (f a) (f b)) (andGate a b) refl refl refl
+map-alike f (xorGate a b) = alike (xorGate (f a) (f b)) (xorGate a b) refl refl refl
+map-alike f (muxGate a b c) = alike (muxGate (f a) (f b) (f c)) (muxGate a b c) refl refl refl
+map-alike f (output a l p) = alike (output (f a) l p) (output a l p) refl refl refl
+
+-- A reset is in range if it is that of a row whose reset is.
+pub reset-alike : (r s : Row) → kindOf r ≡ kindOf s → encodeRow r .reset ≡ encodeRow s .reset → ResetIn s → ResetIn r
+reset-alike constant s k e h = tt
+reset-alike (input _ _) s k e h = tt
+reset-alike (register r n l) constant k e h = absurd (omega arith)
+reset-alike (register r n l) (input _ _) k e h = absurd (omega arith)
+reset-alike (register r n l) (register r′ n′ l′) k e h = omega (arith, e, h)
+reset-alike (register r n l) (andGate _ _) k e h = absurd (omega arith)
+reset-alike (register r n l) (xorGate _ _) k e h = absurd (omega arith)
+reset-alike (register r n l) (muxGate _ _ _) k e h = absurd (omega arith)
+reset-alike (register r n l) (output _ _ _) k e h = absurd (omega arith)
+reset-alike (andGate _ _) s k e h = tt
+reset-alike (xorGate _ _) s k e h = tt
+reset-alike (muxGate _ _ _) s k e h = tt
+reset-alike (output _ _ _) s k e h = tt
+
+-- Rows that have the names of two rows with one name.
+pub same-names : (r r′ s s′ : Row) → SameName r r′ → SameName s s′ → SameName r s → SameName r′ s′
+same-names r r′ s s′ a b e = record { kind = sym (a .kind) ∙ e .kind ∙ b .kind; label = sym (a .label) ∙ e .label ∙ b .label; phase = sym (a .phase) ∙ e .phase ∙ b .phase }

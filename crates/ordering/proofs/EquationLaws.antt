@@ -11,7 +11,7 @@ use lib.Dec.{eqb}
 use Rattle.memory.specs.Lists.{Among, here, there}
 use Rattle.netlist.specs.Rows.{Row, constant, input, register, andGate, xorGate, muxGate, output, rowAt, kindOf, isRegister, isUnknown, isOutput, labelOf, hasName, isNamed, firstRow, rowNamed, HasRow, mapLiterals, faninNodes}
 use Rattle.netlist.specs.Simulation.{boolLogic, literalValue, rowValue, resetValue, nextValue, valueAt, runState, runValue, RunValues}
-use Rattle.netlist.proofs.RowLaws.{named-is, named-register, has-at, has-of}
+use Rattle.netlist.proofs.RowLaws.{named-is, named-register, has-at, has-of, map-alike}
 use Rattle.netlist.specs.WellFormed.{NamesNode, OnLiterals, NamesUnique}
 use Rattle.netlist.proofs.SimulationLaws.{literal-cong, held, state-at, value-at}
 use Rattle.ordering.specs.GateOrder.{isSource, gateOrder, sortedOrder, newNumber, renumberBy, sortedNetlist, Grounded, grounded, IsGateOrder}
@@ -166,13 +166,7 @@ module _ (rows : List Row) (literals : (i : ℕ) → i < length rows → OnLiter
   -- ---- names
 
   keeps-name : (k l p : ℕ) (g : ℕ → ℕ) (r : Row) → isNamed k l p (mapLiterals g r) ≡ isNamed k l p r
-  keeps-name k l p g constant = refl
-  keeps-name k l p g (input _ _) = refl
-  keeps-name k l p g (register _ _ _) = refl
-  keeps-name k l p g (andGate _ _) = refl
-  keeps-name k l p g (xorGate _ _) = refl
-  keeps-name k l p g (muxGate _ _ _) = refl
-  keeps-name k l p g (output _ _ _) = refl
+  keeps-name k l p g r = let n = map-alike g r .name in rw (n .kind, n .label, n .phase)
 
   keeps-unknown : (l : ℕ) (g : ℕ → ℕ) (r : Row) → isUnknown (mapLiterals g r) && eqb (labelOf (mapLiterals g r)) l ≡ isUnknown r && eqb (labelOf r) l
   keeps-unknown l g constant = refl
@@ -202,24 +196,6 @@ module _ (rows : List Row) (literals : (i : ℕ) → i < length rows → OnLiter
         let e : i .0 ≡ rowNamed k l p rows = unique (i .0) (rowNamed k l p rows) (i .1) (x .0) (named (rowAt rows (i .0)) (b .0)) (record { kind = b .0 ∙ sym (a .0); label = b .1 ∙ sym (a .1); phase = b .2 ∙ sym (a .2) }) in
         (x .0, sym (i .2) ∙ ap N e)
 
-    output-named : (r : Row) → kindOf r ≡ 6 → hasName r ≡ true
-    output-named constant e = absurd (omega arith)
-    output-named (input _ _) e = refl
-    output-named (register _ _ _) e = refl
-    output-named (andGate _ _) e = absurd (omega arith)
-    output-named (xorGate _ _) e = absurd (omega arith)
-    output-named (muxGate _ _ _) e = absurd (omega arith)
-    output-named (output _ _ _) e = refl
-
-    register-named : (r : Row) → kindOf r ≡ 2 → hasName r ≡ true
-    register-named constant e = absurd (omega arith)
-    register-named (input _ _) e = refl
-    register-named (register _ _ _) e = refl
-    register-named (andGate _ _) e = absurd (omega arith)
-    register-named (xorGate _ _) e = absurd (omega arith)
-    register-named (muxGate _ _ _) e = absurd (omega arith)
-    register-named (output _ _ _) e = refl
-
     -- A register's value in a step is what it holds.
     register-value : (run : RunValues) (t y : ℕ) (s n l : ℕ) → y < length sorted → rowAt sorted y ≡ register s n l → valueAt boolLogic (runState boolLogic sorted (run .choices) (run .inputs) t) y ≡ runValue boolLogic sorted (run .choices) (run .inputs) t y
     register-value run t y s n l h e =
@@ -235,10 +211,10 @@ module _ (rows : List Row) (literals : (i : ℕ) → i < length rows → OnLiter
       names = λ k l p. has-same (isNamed k l p) (keeps-name k l p);
       unknowns = λ l. has-same (λ r. isUnknown r && eqb (labelOf r) l) (keeps-unknown l);
       outputs = λ run v sv t l p h.
-          let q = name-place 6 l p output-named h in
+          let q = name-place 6 l p (λ r e. rw e) h in
           ap (new run t) (q .1) ∙ value-once run (solution run) v (run-solves run) sv t (rowNamed 6 l p rows) (q .0);
       registers = λ run v sv t l h.
-          let q = name-place 2 l 0 register-named h in
+          let q = name-place 2 l 0 (λ r e. rw e) h in
           let y = has-at (isNamed 2 l 0) sorted (has-same (isNamed 2 l 0) (keeps-name 2 l 0) .0 h) in
           let r = named-register l (rowAt sorted (rowNamed 2 l 0 sorted)) (y .1) in
           register-value run t (rowNamed 2 l 0 sorted) (r .0) (r .1) l (y .0) (r .2) ∙ ap (new run t) (q .1) ∙ value-once run (solution run) v (run-solves run) sv t (rowNamed 2 l 0 rows) (q .0);

@@ -3,19 +3,21 @@
 use Prim.Native.Nat.{ℕ, zero, suc, _+_, _<_, _≤_, _/_, _^_}
 use mathlib.Core.Path.{_≡_, refl, sym, ap, _∙_, subst}
 use mathlib.Core.Logic.{inl, inr}
-use mathlib.Core.Bool.{true, false, false≢true}
+use mathlib.Core.Bool.{true, false, _&&_, false≢true}
 use mathlib.Core.List.{List, [], _∷_, _++_}
 use native.Mathlib.Omega.{arith}
 use native.Mathlib.Decide.{decLt}
+use lib.Dec.{eqb, ltb}
 use lib.ListN.{length, getD, length-append, List·getD-append, List·getD-eq-default}
 use Rattle.memory.specs.Lists.{Among}
 use Rattle.memory.specs.Fields.{IsBytes}
 use Rattle.memory.proofs.TestLaws.{fails}
 use Rattle.netlist.specs.Limits.{mostPhases, mostRows}
-use Rattle.netlist.specs.Rows.{Row, constant, input, register, andGate, xorGate, muxGate, output, rowAt, kindOf, nameOf, labelOf, phaseOf, hasName, isOutput, mapLiterals}
+use Rattle.netlist.specs.Rows.{Row, constant, input, register, andGate, xorGate, muxGate, output, rowAt, kindOf, labelOf, phaseOf, isOutput, mapLiterals}
 use Rattle.netlist.specs.FileFormat.{netlistOf, fileOf}
 use Rattle.netlist.proofs.FileLaws.{file-length, file-labels}
-use Rattle.netlist.specs.WellFormed.{OperandsBelow, ResetIn, NamesNode, OnLiterals, FileShape, SameName, UnorderedRows}
+use Rattle.netlist.proofs.RowLaws.{named-alike, map-alike, reset-alike, same-names}
+use Rattle.netlist.specs.WellFormed.{OperandsBelow, ResetIn, NamesNode, OnLiterals, FileShape, UnorderedRows}
 use Rattle.questions.specs.Questions.{noRefusal, question, fileRefusal, unorderedRefusal, namesAnywhere, namesEarlier}
 use Rattle.questions.proofs.QuestionLaws.{all-none, number-none}
 use Rattle.questions.proofs.AcceptedFiles.{FileRight, file-right, rows-of-file, file-unordered, file-checked}
@@ -35,40 +37,10 @@ use Rattle.ordering.proofs.EquationLaws.{same-runs}
 -- ---- renumbering keeps all but the literals
 
 keeps-kind : (g : ℕ → ℕ) (r : Row) → kindOf (mapLiterals g r) ≡ kindOf r
-keeps-kind g constant = refl
-keeps-kind g (input _ _) = refl
-keeps-kind g (register _ _ _) = refl
-keeps-kind g (andGate _ _) = refl
-keeps-kind g (xorGate _ _) = refl
-keeps-kind g (muxGate _ _ _) = refl
-keeps-kind g (output _ _ _) = refl
-
-keeps-names : (g : ℕ → ℕ) (r : Row) → nameOf (mapLiterals g r) ≡ nameOf r
-keeps-names g constant = refl
-keeps-names g (input _ _) = refl
-keeps-names g (register _ _ _) = refl
-keeps-names g (andGate _ _) = refl
-keeps-names g (xorGate _ _) = refl
-keeps-names g (muxGate _ _ _) = refl
-keeps-names g (output _ _ _) = refl
-
-keeps-reset : (g : ℕ → ℕ) (r : Row) → ResetIn r → ResetIn (mapLiterals g r)
-keeps-reset g constant h = tt
-keeps-reset g (input _ _) h = tt
-keeps-reset g (register _ _ _) h = h
-keeps-reset g (andGate _ _) h = tt
-keeps-reset g (xorGate _ _) h = tt
-keeps-reset g (muxGate _ _ _) h = tt
-keeps-reset g (output _ _ _) h = tt
+keeps-kind g r = map-alike g r .name .kind
 
 keeps-output : (g : ℕ → ℕ) (r : Row) → isOutput (mapLiterals g r) ≡ isOutput r
-keeps-output g constant = refl
-keeps-output g (input _ _) = refl
-keeps-output g (register _ _ _) = refl
-keeps-output g (andGate _ _) = refl
-keeps-output g (xorGate _ _) = refl
-keeps-output g (muxGate _ _ _) = refl
-keeps-output g (output _ _ _) = refl
+keeps-output g r = ap (λ (k : ℕ). eqb k 6) (keeps-kind g r)
 
 -- Literals that name nodes, renumbered; a gate's name earlier rows besides.
 literals-of : (g : ℕ → ℕ) (old new : List Row) (y : ℕ) → ((l : ℕ) → NamesNode old l → NamesNode new (g l)) → (r : Row) → OnLiterals (NamesNode old) (NamesNode old) r → OperandsBelow y (mapLiterals g r) → OnLiterals (λ l. l / 2 < y) (NamesNode new) (mapLiterals g r)
@@ -158,25 +130,6 @@ module _ (rows : List Row) (U : UnorderedRows rows) (O : IsGateOrder rows (gateO
       let oi : isOutput (rowAt rows (i .0)) ≡ true = sym (keeps-output g (rowAt rows (i .0))) ∙ ap isOutput (sym (sorted-at rows O (i .0) (i .1))) ∙ ap (λ (z : ℕ). isOutput (rowAt sorted z)) (i .2) ∙ o in
       absurd (omega (arith, node-before (j .0) (j .1) nj, output-place rows O (i .0) (i .1) oi .1, i .2, j .2)))
 
-  same-name : (i j : ℕ) → SameName (mapLiterals g (rowAt rows i)) (mapLiterals g (rowAt rows j)) → SameName (rowAt rows i) (rowAt rows j)
-  same-name i j s =
-      let a = keeps-names g (rowAt rows i) in
-      let b = keeps-names g (rowAt rows j) in
-      record {
-        kind = sym (keeps-kind g (rowAt rows i)) ∙ s .kind ∙ keeps-kind g (rowAt rows j);
-        label = sym (ap (λ (n : ℕ × ℕ). n .0) a) ∙ s .label ∙ ap (λ (n : ℕ × ℕ). n .0) b;
-        phase = sym (ap (λ (n : ℕ × ℕ). n .1) a) ∙ s .phase ∙ ap (λ (n : ℕ × ℕ). n .1) b;
-      }
-
-  named-still : (r : Row) → hasName (mapLiterals g r) ≡ true → hasName r ≡ true
-  named-still constant h = h
-  named-still (input _ _) h = h
-  named-still (register _ _ _) h = h
-  named-still (andGate _ _) h = h
-  named-still (xorGate _ _) h = h
-  named-still (muxGate _ _ _) h = h
-  named-still (output _ _ _) h = h
-
   pub sorted-shape : FileShape mostPhases sorted
   sorted-shape = record {
     some-row = omega (arith, sorted-rows rows O, some-row);
@@ -186,14 +139,14 @@ module _ (rows : List Row) (U : UnorderedRows rows) (O : IsGateOrder rows (gateO
     some-output =
         (let o = U .has-output in
         (N (o .0), number-lt rows O (o .0) (o .4), ap isOutput (sorted-at rows O (o .0) (o .4)) ∙ keeps-output g (rowAt rows (o .0)) ∙ ap isOutput (o .5)));
-    phases = from (λ y r. phaseOf r < mostPhases) (λ i l. subst (λ (n : ℕ × ℕ). n .1 < mostPhases) (sym (keeps-names g (rowAt rows i))) (U .phases i l));
-    resets = from (λ y r. ResetIn r) (λ i l. keeps-reset g (rowAt rows i) (U .resets i l));
+    phases = from (λ y r. phaseOf r < mostPhases) (λ i l. subst (λ (p : ℕ). p < mostPhases) (sym (map-alike g (rowAt rows i) .name .phase)) (U .phases i l));
+    resets = from (λ y r. ResetIn r) (λ i l. reset-alike (mapLiterals g (rowAt rows i)) (rowAt rows i) (keeps-kind g (rowAt rows i)) (map-alike g (rowAt rows i) .reset) (U .resets i l));
     distinct = λ x y l h n s.
         let i = sorted-from rows O x (omega arith) in
         let j = sorted-from rows O y h in
         let si : rowAt sorted x ≡ mapLiterals g (rowAt rows (i .0)) = ap (rowAt sorted) (sym (i .2)) ∙ sorted-at rows O (i .0) (i .1) in
         let sj : rowAt sorted y ≡ mapLiterals g (rowAt rows (j .0)) = ap (rowAt sorted) (sym (j .2)) ∙ sorted-at rows O (j .0) (j .1) in
-        let e : i .0 ≡ j .0 = U .unique (i .0) (j .0) (i .1) (j .1) (named-still (rowAt rows (i .0)) (rw si at n)) (same-name (i .0) (j .0) (rw (si, sj) at s)) in
+        let e : i .0 ≡ j .0 = U .unique (i .0) (j .0) (i .1) (j .1) (named-alike (mapLiterals g (rowAt rows (i .0))) (rowAt rows (i .0)) (keeps-kind g (rowAt rows (i .0))) (rw si at n)) (same-names _ _ _ _ (map-alike g (rowAt rows (i .0)) .name) (map-alike g (rowAt rows (j .0)) .name) (rw (si, sj) at s)) in
         omega (arith, sym (i .2) ∙ ap N e ∙ j .2, l);
     literals = λ y h.
         let r = sorted-from rows O y h in
@@ -220,8 +173,8 @@ module _ (rows : List Row) (U : UnorderedRows rows) (O : IsGateOrder rows (gateO
       let j = sorted-from rows O y h in
       let hx = gate-lt sorted x gx in
       let i = sorted-from rows O x hx in
-      let sj : isSource (rowAt rows (j .0)) ≡ true = sym (source-keeps (rowAt rows (j .0))) ∙ ap isSource (sym (sorted-at rows O (j .0) (j .1))) ∙ ap (λ (z : ℕ). isSource (rowAt sorted z)) (j .2) ∙ sy in
-      let gi : isGate (rowAt rows (i .0)) ≡ true = sym (gate-keeps (rowAt rows (i .0))) ∙ ap isGate (sym (sorted-at rows O (i .0) (i .1))) ∙ ap (λ (z : ℕ). isGate (rowAt sorted z)) (i .2) ∙ gx in
+      let sj : isSource (rowAt rows (j .0)) ≡ true = sym (ap (λ (k : ℕ). ltb k 3) (keeps-kind g (rowAt rows (j .0)))) ∙ ap isSource (sym (sorted-at rows O (j .0) (j .1))) ∙ ap (λ (z : ℕ). isSource (rowAt sorted z)) (j .2) ∙ sy in
+      let gi : isGate (rowAt rows (i .0)) ≡ true = sym (ap (λ (k : ℕ). ltb 2 k && ltb k 6) (keeps-kind g (rowAt rows (i .0)))) ∙ ap isGate (sym (sorted-at rows O (i .0) (i .1))) ∙ ap (λ (z : ℕ). isGate (rowAt sorted z)) (i .2) ∙ gx in
       let r = at-of (i .0) (gateOrder rows) (O .every (i .0) (i .1) gi) in
       let n : N (i .0) ≡ length (rowsThat rows isSource) + r .0 = ap N (sym (r .2)) ∙ gate-place rows O (r .0) (r .1) in
       omega (arith, source-place rows O (j .0) (j .1) sj .1, n, i .2, j .2)
@@ -231,24 +184,6 @@ module _ (rows : List Row) (U : UnorderedRows rows) (O : IsGateOrder rows (gateO
         | yes l ↦ l
         | no l ↦ absurd (false≢true (sym (ap isGate (List·getD-eq-default rs constant {n = x} (omega arith))) ∙ e))
       ]
-
-      source-keeps : (r : Row) → isSource (mapLiterals g r) ≡ isSource r
-      source-keeps constant = refl
-      source-keeps (input _ _) = refl
-      source-keeps (register _ _ _) = refl
-      source-keeps (andGate _ _) = refl
-      source-keeps (xorGate _ _) = refl
-      source-keeps (muxGate _ _ _) = refl
-      source-keeps (output _ _ _) = refl
-
-      gate-keeps : (r : Row) → isGate (mapLiterals g r) ≡ isGate r
-      gate-keeps constant = refl
-      gate-keeps (input _ _) = refl
-      gate-keeps (register _ _ _) = refl
-      gate-keeps (andGate _ _) = refl
-      gate-keeps (xorGate _ _) = refl
-      gate-keeps (muxGate _ _ _) = refl
-      gate-keeps (output _ _ _) = refl
 
   sorted-literals : (y : ℕ) → y < length sorted → OnLiterals (NamesNode sorted) (NamesNode sorted) (rowAt sorted y)
   sorted-literals = from (λ y r. OnLiterals (NamesNode sorted) (NamesNode sorted) r) (λ i l. literals-all g rows sorted names-node (rowAt rows i) (U .operands i l))
@@ -274,7 +209,7 @@ module _ (rows : List Row) (U : UnorderedRows rows) (O : IsGateOrder rows (gateO
   sorted-writable few labels = record {
     few = omega (arith, sorted-rows rows O);
     pass = shape-passes sorted mostPhases sorted-shape (omega arith);
-    labels = from (λ y r. labelOf r < 2 ^ 16) (λ i l. subst (λ (n : ℕ × ℕ). n .0 < 2 ^ 16) (sym (keeps-names g (rowAt rows i))) (labels i l));
+    labels = from (λ y r. labelOf r < 2 ^ 16) (λ i l. subst (λ (m : ℕ). m < 2 ^ 16) (sym (map-alike g (rowAt rows i) .name .label)) (labels i l));
   }
 
 -- ---- from the file's bytes

@@ -1,4 +1,4 @@
--- What each question that is asked of a file, or by Run, means in the scope paper's words; Fold's own questions stand in `FoldRefusalWords`, and where the words are one inequality (17, 21) they stand in `RefusalWords`.
+-- What each question that is asked of a file, or by Run, means in the scope paper's words; Fold's own questions stand in `FoldRefusalWords`, Sort's in `SortRefusalWords`, and where the words are one inequality (17, 21) they stand in `RefusalWords`.
 -- Interface: LengthWords (1), SumWords, HeadWords, CountWords, UnusedWords (2 to 5), KindWords, FieldsWords, LabelWords, LiteralWords, UnorderedWords (6 to 9), OutputWords (10), ListsWords, BinaryWords, RoomWords (18 to 20).
 -- Assumes nothing.
 use Prim.Native.Nat.{ℕ, suc, _+_, _-_, _*_, _<_, _≤_, _/_, _%_, _^_}

@@ -121,7 +121,7 @@ rowsRefusal operand ws = firstRefusal (itemQuestions (length ws) (rowQuestions o
 unfoldable pub fileRefusalWith : (List Row → ℕ → ℕ → Bool) → List ℕ → Refusal
 fileRefusalWith operand f = firstRefusal (question 1 (lengthRight f) ∷ itemQuestions (blockCount f) (λ B. blockQuestions (blockCount f) B (blockAt f B)) ∷ rowsRefusal operand (fieldsOf f) ∷ [])
 
--- Check, and what every operation asks first.
+-- Check, and what every operation but Sort asks first.
 abbrev pub fileRefusal : List ℕ → Refusal
 fileRefusal f = fileRefusalWith namesEarlier f
 

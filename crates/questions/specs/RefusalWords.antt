@@ -1,5 +1,5 @@
 -- What a refusal means, in the scope paper's words: all that an operation asks, in order, and that the refusal names the first no.
--- Interface: Asked, AllYes, FirstNo, RefusalMeans, PrefixesRefused (the statements); askedOfFile, askedOfUnordered, askedByRun, askedByShow (what is asked). Fold's list stands in `FoldRefusalWords`.
+-- Interface: Asked, AllYes, FirstNo, RefusalMeans, PrefixesRefused (the statements); askedOfFile, askedOfUnordered, askedByRun, askedByShow (what is asked). Fold's list stands in `FoldRefusalWords`, Sort's in `SortRefusalWords`.
 -- Assumes nothing.
 use Prim.Native.Nat.{ℕ, _<_, _≤_}
 use mathlib.Core.Path.{_≡_}
@@ -78,7 +78,7 @@ askedOfRows ninth ws = joinBelow (length ws) (askedOfRow ninth ws) ++ (ask 10 0 
 unfoldable pub askedWith : NinthWords → List ℕ → List Asked
 askedWith ninth f = ask 1 0 (LengthWords f) ∷ askedOfBlocks f ++ askedOfRows ninth (fieldsOf f)
 
--- What every operation asks first.
+-- What every operation but Sort asks first.
 abbrev pub askedOfFile : List ℕ → List Asked
 askedOfFile f = askedWith LiteralWords f
 

@@ -1,7 +1,7 @@
 -- `operand_count` meets its contract: the row's kind byte says how many operands it has.
 -- Assumes nothing.
 use borrow.Author.Needs.{needs}
-use Rattle.gate_rows.proofs.OperandLaws.{kind-inside, and-operands, xor-operands, mux-operands, no-operands}
+use Rattle.gate_rows.proofs.OperandLaws.{kind-inside, operands-of, no-operands}
 use Rattle.gate_rows.proofs.operand_count.Statement.{statement}
 use Rattle.gate_rows.proofs.operand_count.Tie as tie
 
@@ -9,13 +9,13 @@ shared-slice-read-kind : tie.Need-shared-slice-read-kind
 shared-slice-read-kind c = search kind-inside
 
 returns : tie.Need-returns
-returns c = search (and-operands, needs)
+returns c = search (operands-of 3, needs)
 
 returns-2 : tie.Need-returns-2
-returns-2 c = search (xor-operands, needs)
+returns-2 c = search (operands-of 4, needs)
 
 returns-3 : tie.Need-returns-3
-returns-3 c = search (mux-operands, needs)
+returns-3 c = search (operands-of 5, needs)
 
 returns-4 : tie.Need-returns-4
 returns-4 c = search (no-operands, needs)
