@@ -413,7 +413,11 @@ fn settle3(nodes: &[Row], values: &mut [u8]) {
             MUX => match operand(row.a) {
                 1 => value3(values, row.b),
                 0 => value3(values, row.c),
-                _ => X,
+                _ => match value3(values, row.b) {
+                    X => X,
+                    b if b == value3(values, row.c) => b,
+                    _ => X,
+                },
             },
             _ => continue,
         };

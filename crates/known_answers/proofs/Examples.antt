@@ -48,6 +48,22 @@ ringFold = record {
   rows = constant ∷ output 0 0 0 ∷ output 1 0 1 ∷ output 1 0 2 ∷ output 0 0 3 ∷ output 1 0 4 ∷ output 1 0 5 ∷ [];
 }
 
+-- A register that takes its own inverse whatever the input selects, and its fold, which has outputs of constants alone.
+abbrev pub heldClock : List Row
+heldClock = constant ∷ input 0 0 ∷ register 0 6 0 ∷ muxGate 2 5 5 ∷ output 4 0 0 ∷ []
+
+abbrev pub heldClockFold : FoldAnswer
+heldClockFold = record {
+  stem = 0;
+  cycle = 2;
+  phases = 2;
+  used = 1;
+  before = 5;
+  after = 3;
+  clocks = record { label = 0; period = 2; word = 2; ones = 1 } ∷ [];
+  rows = constant ∷ output 0 0 0 ∷ output 1 0 1 ∷ [];
+}
+
 -- The printed sample, and its fold.
 abbrev pub sample : List Row
 sample = constant ∷ input 0 0 ∷ register 0 5 0 ∷ register 0 10 1 ∷ register 0 12 2 ∷ muxGate 4 2 6 ∷ muxGate 4 8 6 ∷ output 8 0 0 ∷ []

@@ -1,4 +1,4 @@
--- The entries of the trainer's table that are marked as proved, and the printed sample, as one claim. All but the entries on lengths are computed.
+-- The entries of the trainer's table that are marked as proved, the printed sample and a held clock, as one claim. All but the entries on lengths are computed.
 -- Assumes nothing.
 use Prim.Native.Nat.{ℕ}
 use mathlib.Core.Path.{_≡_, refl}
@@ -21,7 +21,7 @@ use Rattle.abstraction.specs.Compaction.{markSweep, markFixpoint, coneOfInfluen
 use Rattle.abstraction.specs.Fold.{foldWith, foldFromLasso, foldNetlist}
 use Rattle.questions.specs.Questions.{noRefusal, lengthRight, blockQuestions, rowQuestions, rowsRefusal, fileRefusalWith, fileRefusal}
 use Rattle.fold_questions.specs.FoldQuestions.{originalRefusal, foldRefusal}
-use Rattle.known_answers.proofs.Examples.{zeroBody, zeroBlock, wire, rise, figure2, figure2States, ring, ringFold, sample, sampleFold}
+use Rattle.known_answers.proofs.Examples.{zeroBody, zeroBlock, wire, rise, figure2, figure2States, ring, ringFold, heldClock, heldClockFold, sample, sampleFold}
 use Rattle.known_answers.proofs.LongFile.{longest, longest-length, longest-accepted}
 
 abbrev figure2Lasso : Lasso
@@ -64,8 +64,9 @@ pub record Table : Type 0 where
   -- AND of 6 and 7: 0. XOR of 7 and 4: inverse of XOR of 4 and 6.
   pub and-6-7-is-0 : makeAnd 6 7 ≡ existing 0
   pub xor-7-4-is-inverse-of-xor-4-6 : makeXor 7 4 ≡ newRow (xorGate 4 6) 1
-  -- MUX with X, 1, 1: X.
-  pub mux-x-1-1-is-x : mux3 X hi hi ≡ X
+  -- MUX with X, 1, 1: 1. So a clock behind a MUX whose selector is an input is found; that is no entry of the table.
+  pub mux-x-1-1-is-1 : mux3 X hi hi ≡ hi
+  pub held-clock-folds : foldNetlist heldClock 0 ≡ some heldClockFold
   -- The printed sample: its file is accepted, passes Fold's questions, is read as its rows, and folds to the printed answer.
   pub sample-accepted : fileRefusal (fileOf sample) ≡ noRefusal
   pub sample-passes-fold : foldRefusal (fileOf sample) 0 foldResultBytes foldWorkBytes foldClockEntries ≡ noRefusal
@@ -98,7 +99,8 @@ table = record {
   generator-011-word-54-ones-4 = refl;
   and-6-7-is-0 = refl;
   xor-7-4-is-inverse-of-xor-4-6 = refl;
-  mux-x-1-1-is-x = refl;
+  mux-x-1-1-is-1 = refl;
+  held-clock-folds = refl;
   sample-accepted = refl;
   sample-passes-fold = refl;
   sample-read = refl;

@@ -1,4 +1,4 @@
-// A second folder and a second sorter, written from the paper's text alone, to hold the product against. Nothing here is shared with it.
+// A second folder and a second sorter, written from the texts alone, to hold the product against. Nothing here is shared with it.
 pub mod asking;
 mod bytes;
 mod clocks;

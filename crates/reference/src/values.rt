@@ -30,7 +30,7 @@ pub fn mux3(selector: u8, high: u8, low: u8) -> u8 {
     match selector {
         0 => low,
         1 => high,
-        _ => 2,
+        _ => if high == low { high } else { 2 },
     }
 }
 

@@ -52,11 +52,25 @@ xor3-covers is-lo k = k
 xor3-covers is-hi k = not3-covers k
 xor3-covers any k = any
 
+mux3-unknown : (b : Bool) {q : Ternary} {b′ : Bool} {q′ : Ternary} {b″ : Bool} → Covers q b′ → Covers q′ b″ → Covers (mux3 X q q′) (cond b b′ b″)
+unfolding mux3
+mux3-unknown true is-lo is-lo = covers-by (mux3 X lo lo) false refl
+mux3-unknown false is-lo is-lo = covers-by (mux3 X lo lo) false refl
+mux3-unknown b is-lo is-hi = any
+mux3-unknown b is-lo any = any
+mux3-unknown b is-hi is-lo = any
+mux3-unknown true is-hi is-hi = covers-by (mux3 X hi hi) true refl
+mux3-unknown false is-hi is-hi = covers-by (mux3 X hi hi) true refl
+mux3-unknown b is-hi any = any
+mux3-unknown b any is-lo = any
+mux3-unknown b any is-hi = any
+mux3-unknown b any any = any
+
 pub mux3-covers : {q : Ternary} {b : Bool} {q′ : Ternary} {b′ : Bool} {q″ : Ternary} {b″ : Bool} → Covers q b → Covers q′ b′ → Covers q″ b″ → Covers (mux3 q q′ q″) (cond b b′ b″)
 unfolding mux3
 mux3-covers is-lo k l = l
 mux3-covers is-hi k l = k
-mux3-covers any k l = any
+mux3-covers (any {b}) k l = mux3-unknown b k l
 
 pub value-of-code : (a : Ternary) → valueOf (codeOf a) ≡ a
 value-of-code lo = refl

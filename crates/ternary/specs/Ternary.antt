@@ -1,8 +1,8 @@
--- The three values 0, 1 and X (unknown), and their rules: the scope paper, "Values over time".
+-- The three values 0, 1 and X (unknown), and their rules: the scope paper, "Values over time"; that of MUX: the change requests, "unknown selector, equal data".
 -- The rules stay shut: what stands above goes by the laws in `proofs/RuleLaws`, and opens a rule only to compute an example.
 -- Assumes nothing.
 use Prim.Native.Nat.{ℕ, zero, suc}
-use mathlib.Core.Bool.{Bool}
+use mathlib.Core.Bool.{Bool, cond}
 use lib.Dec.{eqb, ltb}
 
 pub data Ternary : Type 0 where
@@ -28,12 +28,6 @@ xor3 lo b = b
 xor3 hi b = not3 b
 xor3 X b = X
 
--- The second if the first is 1, the third if it is 0, X if it is X.
-unfoldable pub mux3 : Ternary → Ternary → Ternary → Ternary
-mux3 lo b c = c
-mux3 hi b c = b
-mux3 X b c = X
-
 -- X is coded 2.
 abbrev pub codeOf : Ternary → ℕ
 codeOf lo = 0
@@ -51,3 +45,9 @@ equal3 a b = eqb (codeOf a) (codeOf b)
 
 abbrev pub isKnown : Ternary → Bool
 isKnown a = ltb (codeOf a) 2
+
+-- The second if the first is 1, the third if it is 0; if it is X, what both agree on, else X.
+unfoldable pub mux3 : Ternary → Ternary → Ternary → Ternary
+mux3 lo b c = c
+mux3 hi b c = b
+mux3 X b c = cond (equal3 b c) b X

@@ -28,11 +28,11 @@ const MUX: [u8; 27] = [
     2,
     2,
     2,
-    2, // s is X: X
+    0, // s is X: b if it is c, else X
     2,
     2,
     2,
-    2,
+    1,
     2,
     2,
     2,

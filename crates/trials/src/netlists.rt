@@ -20,7 +20,7 @@ fn put_next(file: &mut [u8], seed: &mut u64, style: Style, at: usize) -> usize {
     if at >= style.nodes {
         return at;
     }
-    let pick = roll(seed, plus(style.gates, 16));
+    let pick = roll(seed, plus(style.gates, 18));
     crate::pieces::put_piece(file, seed, at, pick)
 }
 

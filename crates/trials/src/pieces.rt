@@ -142,6 +142,24 @@ pub fn put_latch(file: &mut [u8], seed: &mut u64, at: usize) -> usize {
     plus(at, 2)
 }
 
+// A clock, and a register that takes the inverse of the clock or of itself, as a selector says, or of itself in both cases. Where both data are equal it turns over whatever the selector is.
+pub fn put_held(file: &mut [u8], seed: &mut u64, at: usize) -> usize {
+    let held = plus(at, 1);
+    let gate = plus(at, 2);
+    let selector = earlier(seed, at);
+    let reset = roll_u8(seed, 2) % 2;
+    let other = any_reset(seed);
+    let alike = chance(seed, 2);
+    let start = if alike { reset } else { other };
+    let own = plain(held) ^ 1;
+    let clock = plain(at) ^ 1;
+    let high = if chance(seed, 3) { own } else { clock };
+    put_register(file, at, reset, clock);
+    put_register(file, held, start, plain(gate));
+    put_row(file, gate, cells(5, 0, selector, high, own));
+    plus(at, 3)
+}
+
 // A row of registers that fills with 1 from the first on, a register a step.
 pub fn put_stem(file: &mut [u8], at: usize, count: usize) -> usize {
     let mut before: u16 = 1;
@@ -180,6 +198,7 @@ pub fn put_piece(file: &mut [u8], seed: &mut u64, at: usize, pick: usize) -> usi
         7 => put_counter(file, at, few),
         8 | 9 | 10 => put_latch(file, seed, at),
         11 => put_stem(file, at, few),
+        12 | 13 => put_held(file, seed, at),
         _ => put_gate(file, seed, at),
     }
 }
