@@ -11,11 +11,11 @@ use Rattle.memory.specs.Slots.{slotAt, setSlot}
 use Rattle.memory.proofs.TestLaws.{last-or}
 use Rattle.memory.proofs.SlotLaws.{slot-same, slot-other}
 use Rattle.netlist.specs.Rows.{Row, constant, input, register, andGate, xorGate, muxGate, output, rowAt, faninNodes}
-use Rattle.netlist.specs.FileFormat.{netlistOf}
 use Rattle.netlist.specs.WellFormed.{UnorderedRows}
 use Rattle.ordering.specs.GateOrder.{isGate, operandsOf}
 use Rattle.ordering.proofs.PlacingLaws.{among-at, at-of}
-use Rattle.blockfile.specs.Ready.{Ready}
+use Rattle.gate_rows.specs.Sources.{sourceRows, Source}
+use Rattle.gate_rows.specs.declared.Layout.{Layout}
 use Rattle.gate_rows.proofs.RowLaws.{operand-below, row-inside}
 use Rattle.gate_loops.specs.Walk.{settledSlot, firstSlot, SourcesSettled, Unsettled}
 
@@ -67,29 +67,29 @@ set-more rows w₀ w w′ n m v i room long S e h q = rw q (record {
       (λ k. rw k (slot-same w m v (omega arith) h ∙ e));
 })
 
--- ---- a file that is ready
+-- ---- the rows of a source
 
-module _ (f : List ℕ) (n : ℕ) (Q : Ready UnorderedRows f n) where
-  pub set-all : (w : List ℕ) (m : ℕ) → n ≤ m → SetBelow (netlistOf f) w m → SourcesSettled (netlistOf f) w
-  set-all w m h S x l = S .slots x (omega (arith, Q .file .count))
+module _ (layout : Layout) (f : List ℕ) (n : ℕ) (Q : Source layout f n) where
+  pub set-all : (w : List ℕ) (m : ℕ) → n ≤ m → SetBelow (sourceRows layout f) w m → SourcesSettled (sourceRows layout f) w
+  set-all w m h S x l = S .slots x (omega (arith, Q .count))
 
   -- ---- the first operand that is not settled
 
   module _ (row : ℕ) (h : row < n) where
     abbrev operands : List ℕ
-    operands = operandsOf (rowAt (netlistOf f) row)
+    operands = operandsOf (rowAt (sourceRows layout f) row)
 
     module _ (count index node : ℕ) (size : count ≡ length operands) (l : index < count) (e : node ≡ getD operands index 0) where
       named : Among node operands
       named = rw e (among-at index operands (omega arith))
 
-      node-inside : node < length (netlistOf f)
-      node-inside = operand-below (netlistOf f) (Q .rows) row (row-inside f n Q row h) node named
+      node-inside : node < length (sourceRows layout f)
+      node-inside = operand-below (sourceRows layout f) (Q .rows) row (row-inside layout f n Q row h) node named
 
       pub node-room : (w : List ℕ) → 2 * n ≤ length w → 2 * node + 2 ≤ length w
-      node-room w k = omega (arith, node-inside, Q .file .count)
+      node-room w k = omega (arith, node-inside, Q .count)
 
-      pub node-unsettled : (w : List ℕ) (s : ℕ) → s ≡ slotAt w node → ¬ (s ≡ settledSlot) → Unsettled (netlistOf f) w row node
+      pub node-unsettled : (w : List ℕ) (s : ℕ) → s ≡ slotAt w node → ¬ (s ≡ settledSlot) → Unsettled (sourceRows layout f) w row node
       node-unsettled w s q d = record {
         inside = node-inside;
         none = λ z k. absurd (d (q ∙ ap (slotAt w) z ∙ k));
@@ -106,11 +106,11 @@ passed-none rows w i = record { settled = λ k h. absurd (omega arith) }
 pub passed-more : (rows : List Row) (w : List ℕ) (i m node s : ℕ) → PassedBelow rows w i m → node ≡ getD (operandsOf (rowAt rows i)) m 0 → s ≡ slotAt w node → s ≡ settledSlot → PassedBelow rows w i (m + 1)
 passed-more rows w i m node s P e q z = record { settled = λ k h. last-or k m (omega arith) (P .settled k) (λ d. rw (d, ← e, ← q) z) }
 
-pub all-passed : (f : List ℕ) (n : ℕ) → Ready UnorderedRows f n → (w : List ℕ) (row m count : ℕ) → row < n → count ≡ length (operandsOf (rowAt (netlistOf f) row)) → count ≤ m → PassedBelow (netlistOf f) w row m → Unsettled (netlistOf f) w row 0
-all-passed f n Q w row m count h e l P = record {
-  inside = omega (arith, Q .file .count);
+pub all-passed : (layout : Layout) (f : List ℕ) (n : ℕ) → Source layout f n → (w : List ℕ) (row m count : ℕ) → row < n → count ≡ length (operandsOf (rowAt (sourceRows layout f) row)) → count ≤ m → PassedBelow (sourceRows layout f) w row m → Unsettled (sourceRows layout f) w row 0
+all-passed layout f n Q w row m count h e l P = record {
+  inside = omega (arith, Q .count);
   none = λ _ _ j a.
-      let r = at-of j (operandsOf (rowAt (netlistOf f) row)) a in
+      let r = at-of j (operandsOf (rowAt (sourceRows layout f) row)) a in
       ap (slotAt w) (sym (r .2)) ∙ P .settled (r .0) (omega (arith, r .1));
   some = λ z. absurd (z refl);
 }

@@ -14,12 +14,11 @@ use Rattle.memory.specs.Slots.{slotAt}
 use Rattle.memory.proofs.TestLaws.{fails, last-or}
 use Rattle.memory.proofs.ListLaws.{first-found, first-none}
 use Rattle.netlist.specs.Rows.{Row, rowAt}
-use Rattle.netlist.specs.FileFormat.{netlistOf}
-use Rattle.netlist.specs.WellFormed.{UnorderedRows}
 use Rattle.ordering.specs.GateOrder.{isGate, isIn, gateOrder, Grounded}
 use Rattle.ordering.specs.SortQuestions.{loopQuestion}
 use Rattle.ordering.proofs.PlacingLaws.{grounded-in, in-grounded}
-use Rattle.blockfile.specs.Ready.{Ready}
+use Rattle.gate_rows.specs.Sources.{sourceRows, Source}
+use Rattle.gate_rows.specs.declared.Layout.{Layout}
 use Rattle.gate_rows.proofs.RowLaws.{row-inside}
 use Rattle.gate_loops.specs.Walk.{settledSlot, SourcesSettled, Settled, NoneOpen, WalkReady, Walked}
 use Rattle.gate_loops.proofs.WalkLaws.{open-of, open-words, unsettled-gate}
@@ -60,36 +59,36 @@ module _ (rows : List Row) (w : List ℕ) (S : SourcesSettled rows w) where
 -- ---- the walks
 
 -- No slot is open, and the rows before m are settled; w₀ has the slots before any walk.
-pub record Searching (f w₀ w : List ℕ) (n m : ℕ) : Type 0 where
-  pub ready : Ready UnorderedRows f n
+pub record Searching (layout : Layout) (f w₀ w : List ℕ) (n m : ℕ) : Type 0 where
+  pub ready : Source layout f n
   pub upto : m ≤ n
   pub room : 2 * n ≤ length w
   pub long : length w ≡ length w₀
-  pub settled : Settled (netlistOf f) w
-  pub closed : NoneOpen (netlistOf f) w
+  pub settled : Settled (sourceRows layout f) w
+  pub closed : NoneOpen (sourceRows layout f) w
   pub settled-before : (x : ℕ) → x < m → slotAt w x ≡ settledSlot
 
-pub search-starts : (f v w : List ℕ) (n : ℕ) → Ready UnorderedRows f n → 2 * n ≤ length v → length w ≡ length v → SourcesSettled (netlistOf f) w → Searching f w w n 0
-search-starts f v w n Q room long S = record {
+pub search-starts : (layout : Layout) (f v w : List ℕ) (n : ℕ) → Source layout f n → 2 * n ≤ length v → length w ≡ length v → SourcesSettled (sourceRows layout f) w → Searching layout f w w n 0
+search-starts layout f v w n Q room long S = record {
   ready = Q;
   upto = omega arith;
   room = omega arith;
   long = refl;
-  settled = settled-first (netlistOf f) w S;
-  closed = none-first (netlistOf f) w S;
+  settled = settled-first (sourceRows layout f) w S;
+  closed = none-first (sourceRows layout f) w S;
   settled-before = λ x h. absurd (omega arith);
 }
 
-module _ (f w₀ w : List ℕ) (n m : ℕ) (S : Searching f w₀ w n m) where
-  inside : (x : ℕ) → x < n → x < length (netlistOf f)
-  inside = row-inside f n (S .ready)
+module _ (layout : Layout) (f w₀ w : List ℕ) (n m : ℕ) (S : Searching layout f w₀ w n m) where
+  inside : (x : ℕ) → x < n → x < length (sourceRows layout f)
+  inside = row-inside layout f n (S .ready)
 
   module _ (s : ℕ) where
-    pub walk-ready : s ≡ 0 → s ≡ slotAt w m → WalkReady (netlistOf f) w m
+    pub walk-ready : s ≡ 0 → s ≡ slotAt w m → WalkReady (sourceRows layout f) w m
     walk-ready z e = record { settled = S .settled; closed = S .closed; unseen = sym e ∙ z }
 
     -- The row is settled already.
-    pub row-passed : ¬ (s ≡ 0) → s ≡ slotAt w m → s < 2 ^ 16 → m < n → (w′ : List ℕ) → w′ ≡ w → Searching f w₀ w′ n (m + 1)
+    pub row-passed : ¬ (s ≡ 0) → s ≡ slotAt w m → s < 2 ^ 16 → m < n → (w′ : List ℕ) → w′ ≡ w → Searching layout f w₀ w′ n (m + 1)
     row-passed d e l h w′ q = rw q (record {
       ready = S .ready;
       upto = omega arith;
@@ -104,7 +103,7 @@ module _ (f w₀ w : List ℕ) (n m : ℕ) (S : Searching f w₀ w n m) where
         closed-slot = elim (ℕ-discrete (slotAt w m) settledSlot) [ yes z ↦ z | no z ↦ absurd (S .closed m (inside m h) (open-of (slotAt w m) (omega arith) (omega arith))) ]
 
   -- A walk has settled it.
-  pub row-settled : (r : Bool) (v w′ : List ℕ) → not r ≡ false → (r ≡ true → Walked (netlistOf f) w v m) → m < n → length v ≡ length w → w′ ≡ v → Searching f w₀ w′ n (m + 1)
+  pub row-settled : (r : Bool) (v w′ : List ℕ) → not r ≡ false → (r ≡ true → Walked (sourceRows layout f) w v m) → m < n → length v ≡ length w → w′ ≡ v → Searching layout f w₀ w′ n (m + 1)
   row-settled r v w′ t G h l q = let W = G (not-false r t) in rw q (record {
     ready = S .ready;
     upto = omega arith;
@@ -117,13 +116,13 @@ module _ (f w₀ w : List ℕ) (n m : ℕ) (S : Searching f w₀ w n m) where
 
   -- ---- the answer, where the question is whether q holds of a row
 
-  module _ (q : ℕ → Bool) (asks : (i : ℕ) → q i ≡ ltb 0 (loopQuestion (netlistOf f) i)) where
+  module _ (q : ℕ → Bool) (asks : (i : ℕ) → q i ≡ ltb 0 (loopQuestion (sourceRows layout f) i)) where
     before-passed : (x : ℕ) → x < m → q x ≡ false
-    before-passed x h = asks x ∙ question-passed (netlistOf f) x (λ g. S .settled .sound x (inside x (omega (arith, S .upto))) g (S .settled-before x h))
+    before-passed x h = asks x ∙ question-passed (sourceRows layout f) x (λ g. S .settled .sound x (inside x (omega (arith, S .upto))) g (S .settled-before x h))
 
-    pub row-fails : (r : Bool) (s : ℕ) → not r ≡ true → (r ≡ false → ¬ Grounded (netlistOf f) m) → m < n → s ≡ 0 → s ≡ slotAt w m → m ≡ firstFrom 0 n q
+    pub row-fails : (r : Bool) (s : ℕ) → not r ≡ true → (r ≡ false → ¬ Grounded (sourceRows layout f) m) → m < n → s ≡ 0 → s ≡ slotAt w m → m ≡ firstFrom 0 n q
     row-fails r s t G h z e = sym (first-found 0 n q m (omega arith) (omega arith) (λ x _ l. before-passed x l)
-        (asks m ∙ question-failed (netlistOf f) m (unsettled-gate (netlistOf f) w (S .settled) m (inside m h) (λ k. omega arith)) (G (not-true r t))))
+        (asks m ∙ question-failed (sourceRows layout f) m (unsettled-gate (sourceRows layout f) w (S .settled) m (inside m h) (λ k. omega arith)) (G (not-true r t))))
 
     pub all-pass : n ≤ m → n ≡ firstFrom 0 n q
     all-pass h = sym (first-none 0 n q (λ x _ l. before-passed x (omega arith)) ∙ omega arith)

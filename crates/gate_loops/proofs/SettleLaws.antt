@@ -12,10 +12,9 @@ use Rattle.memory.specs.Lists.{Among}
 use Rattle.memory.specs.Slots.{slotAt, setSlot}
 use Rattle.memory.proofs.SlotLaws.{slot-other}
 use Rattle.netlist.specs.Rows.{Row, rowAt}
-use Rattle.netlist.specs.FileFormat.{netlistOf}
-use Rattle.netlist.specs.WellFormed.{UnorderedRows}
 use Rattle.ordering.specs.GateOrder.{operandsOf, Grounded}
-use Rattle.blockfile.specs.Ready.{Ready}
+use Rattle.gate_rows.specs.Sources.{sourceRows, Source}
+use Rattle.gate_rows.specs.declared.Layout.{Layout}
 use Rattle.gate_rows.proofs.RowLaws.{row-inside}
 use Rattle.gate_loops.specs.Walk.{settledSlot, Unsettled, WalkReady, Walked}
 use Rattle.gate_loops.proofs.RowLaws.{first-no-gate}
@@ -24,38 +23,38 @@ use Rattle.gate_loops.proofs.WalkLaws.{unsettled, falls-opened, falls-s
 set-length : (w w′ : List ℕ) (j v : ℕ) → w′ ≡ setSlot w j v → length w′ ≡ length w
 set-length w w′ j v e = ap length e ∙ length-sets w (2 * j) (u16Bytes v)
 
--- The walk from `root` stands at `row` of the file's n rows; w₀ has the slots as they were when it started.
-pub record Standing (f w₀ w : List ℕ) (n root row : ℕ) : Type 0 where
-  pub ready : Ready UnorderedRows f n
+-- The walk from `root` stands at `row` of the source's n rows; w₀ has the slots as they were when it started.
+pub record Standing (layout : Layout) (f w₀ w : List ℕ) (n root row : ℕ) : Type 0 where
+  pub ready : Source layout f n
   pub started : root < n
   pub inside : row < n
   pub room : 2 * n ≤ length w
   pub long : length w ≡ length w₀
-  pub walking : Walking (netlistOf f) w₀ w root row
+  pub walking : Walking (sourceRows layout f) w₀ w root row
 
-module _ (f : List ℕ) (n : ℕ) (Q : Ready UnorderedRows f n) where
-  slots-of : (w : List ℕ) → 2 * n ≤ length w → HasSlots (netlistOf f) w
-  slots-of w h = record { checked = Q .rows; few = omega (arith, Q .file .count, Q .file .few); room = omega (arith, Q .file .count) }
+module _ (layout : Layout) (f : List ℕ) (n : ℕ) (Q : Source layout f n) where
+  slots-of : (w : List ℕ) → 2 * n ≤ length w → HasSlots (sourceRows layout f) w
+  slots-of w h = record { checked = Q .rows; few = omega (arith, Q .count, Q .few); room = omega (arith, Q .count) }
 
-  pub walk-starts : (root : ℕ) (w w′ : List ℕ) → root < n → 2 * n ≤ length w → WalkReady (netlistOf f) w root → w′ ≡ setSlot w root 1 → Standing f w′ w′ n root root
+  pub walk-starts : (root : ℕ) (w w′ : List ℕ) → root < n → 2 * n ≤ length w → WalkReady (sourceRows layout f) w root → w′ ≡ setSlot w root 1 → Standing layout f w′ w′ n root root
   walk-starts root w w′ l room R e = record {
     ready = Q;
     started = l;
     inside = l;
     room = omega (arith, set-length w w′ root 1 e);
     long = refl;
-    walking = rw e (walk-start (netlistOf f) w (slots-of w room) root (row-inside f n Q root l) (R .settled) (R .closed) (R .unseen));
+    walking = rw e (walk-start (sourceRows layout f) w (slots-of w room) root (row-inside layout f n Q root l) (R .settled) (R .closed) (R .unseen));
   }
 
-module _ (f w₀ w : List ℕ) (n root row : ℕ) (S : Standing f w₀ w n root row) where
+module _ (layout : Layout) (f w₀ w : List ℕ) (n root row : ℕ) (S : Standing layout f w₀ w n root row) where
   abbrev rows : List Row
-  rows = netlistOf f
+  rows = sourceRows layout f
 
   abbrev W : Walking rows w₀ w root row
   W = S .walking
 
   T : HasSlots rows w
-  T = slots-of f n (S .ready) w (S .room)
+  T = slots-of layout f n (S .ready) w (S .room)
 
   open-slot : (0 < slotAt w row) × (slotAt w row < settledSlot)
   open-slot = row-open rows w T w₀ root row W
@@ -65,7 +64,7 @@ module _ (f w₀ w : List ℕ) (n root row : ℕ) (S : Standing f w₀ w n root 
 
   module _ (next : ℕ) (N : Unsettled rows w row next) where
     next-in : next < n
-    next-in = omega (arith, N .inside, S .ready .file .count)
+    next-in = omega (arith, N .inside, S .ready .count)
 
     pub next-room : 2 * next + 2 ≤ length w
     next-room = omega (arith, next-in, S .room)
@@ -78,7 +77,7 @@ module _ (f w₀ w : List ℕ) (n root row : ℕ) (S : Standing f w₀ w n root 
 
       pub walk-ends : (v : List ℕ) → WalkReady rows v root → w₀ ≡ setSlot v root 1 → s ≡ 1 → Walked rows v w′ root
       walk-ends v R k z =
-          let E = walk-end rows w T w₀ root row W all (row-inside f n (S .ready) root (S .started)) (sym e ∙ z) in
+          let E = walk-end rows w T w₀ root row W all (row-inside layout f n (S .ready) root (S .started)) (sym e ∙ z) in
           rw q (record {
             settled = E .settled;
             closed = E .closed;
@@ -90,10 +89,10 @@ module _ (f w₀ w : List ℕ) (n root row : ℕ) (S : Standing f w₀ w n root 
         popped : (s - 1 < length rows) × Walking rows w₀ (setSlot w row settledSlot) root (s - 1)
         popped = walk-pop rows w T w₀ root row W all (s - 1) (omega (arith, open-slot .0)) (omega (arith, open-slot .0))
 
-        pub walk-goes-back : Standing f w₀ w′ n root (s - 1)
+        pub walk-goes-back : Standing layout f w₀ w′ n root (s - 1)
         walk-goes-back =
             let l = set-length w w′ row settledSlot q in
-            record { ready = S .ready; started = S .started; inside = omega (arith, popped .0, S .ready .file .count); room = omega (arith, l, S .room); long = l ∙ S .long; walking = rw q (popped .1) }
+            record { ready = S .ready; started = S .started; inside = omega (arith, popped .0, S .ready .count); room = omega (arith, l, S .room); long = l ∙ S .long; walking = rw q (popped .1) }
 
         pub back-less : unsettled w′ n < unsettled w n
         back-less = rw q (falls-settled w row settledSlot (omega (arith, S .room, S .inside)) (omega arith) n (S .inside) (open-slot .0) (open-slot .1) refl)
@@ -105,10 +104,10 @@ module _ (f w₀ w : List ℕ) (n root row : ℕ) (S : Standing f w₀ w n root 
       walk-meets-loop e d l G =
           let o = open-of (slotAt w next) (omega arith) (omega (arith, N .some some .1)) in
           let r = open-of (slotAt w root) (omega (arith, W .start)) (omega (arith, W .start)) in
-          ungrounded rows w T w₀ root row W next (N .some some .0) (W .open-rows next .0 (N .inside, o)) root G (W .open-rows root .0 (row-inside f n (S .ready) root (S .started), r))
+          ungrounded rows w T w₀ root row W next (N .some some .0) (W .open-rows next .0 (N .inside, o)) root G (W .open-rows root .0 (row-inside layout f n (S .ready) root (S .started), r))
 
       module _ (unseen : s ≡ 0) (e : s ≡ slotAt w next) (w′ : List ℕ) (q : w′ ≡ setSlot w next (row + 1)) where
-        pub walk-goes-on : Standing f w₀ w′ n root next
+        pub walk-goes-on : Standing layout f w₀ w′ n root next
         walk-goes-on =
             let l = set-length w w′ next (row + 1) q in
             record {
@@ -121,4 +120,4 @@ module _ (f w₀ w : List ℕ) (n root row : ℕ) (S : Standing f w₀ w n root 
             }
 
         pub next-less : unsettled w′ n < unsettled w n
-        next-less = rw q (falls-opened w next (row + 1) next-room (omega (arith, S .ready .file .few, S .inside)) n next-in (sym e ∙ unseen) (omega arith) (omega (arith, S .ready .file .few, S .inside)))
+        next-less = rw q (falls-opened w next (row + 1) next-room (omega (arith, S .ready .few, S .inside)) n next-in (sym e ∙ unseen) (omega arith) (omega (arith, S .ready .few, S .inside)))

@@ -12,17 +12,16 @@ use lib.Seq.{length-sets}
 use native.Mathlib.Decide.{ℕ-discrete}
 use borrow.Author.Tests.{eqb-true, eqb-false, eq-eqb, ne-eqb, ltb-true, ltb-false, lt-ltb, le-ltb}
 use Rattle.memory.specs.Lists.{firstFrom}
-use Rattle.memory.specs.Fields.{byteAt, u16Bytes}
+use Rattle.memory.specs.Fields.{u16Bytes}
 use Rattle.memory.specs.Slots.{slotAt, setSlot}
 use Rattle.memory.proofs.TestLaws.{fails, last-or}
 use Rattle.memory.proofs.SlotLaws.{slot-same, slot-other}
-use Rattle.netlist.specs.Rows.{Row, rowFromFields, rowAt, kindOf}
-use Rattle.netlist.specs.FileFormat.{rowOffset, readFields, netlistOf}
-use Rattle.netlist.specs.WellFormed.{UnorderedRows}
-use Rattle.blockfile.specs.Ready.{Ready}
+use Rattle.netlist.specs.Rows.{Row, rowAt, kindOf}
 use Rattle.ordering.specs.GateOrder.{isIn, rowsThat, newNumber}
 use Rattle.ordering.proofs.PlacingLaws.{in-of, in-is}
 use Rattle.ordering.proofs.OrderLaws.{below, below-is, below-in}
+use Rattle.gate_rows.specs.Sources.{sourceRows, Source}
+use Rattle.gate_rows.specs.declared.Layout.{Layout}
 use Rattle.gate_numbers.specs.Numbers.{placedSlot, ofKinds, KindsNumbered}
 
 -- ---- the number of a row in a longer order
@@ -97,42 +96,25 @@ module _ (rows : List Row) (f : Row → Bool) where
 
 -- ---- one row numbered
 
-kind-decoded : (k r a b c : ℕ) → k ≤ 6 → kindOf (rowFromFields k r a b c) ≡ k
-kind-decoded zero r a b c h = refl
-kind-decoded (suc zero) r a b c h = refl
-kind-decoded (suc (suc zero)) r a b c h = refl
-kind-decoded (suc (suc (suc zero))) r a b c h = refl
-kind-decoded (suc (suc (suc (suc zero)))) r a b c h = refl
-kind-decoded (suc (suc (suc (suc (suc zero))))) r a b c h = refl
-kind-decoded (suc (suc (suc (suc (suc (suc zero)))))) r a b c h = refl
-kind-decoded (suc (suc (suc (suc (suc (suc (suc k))))))) r a b c h = absurd (omega arith)
+-- The row's kind is k; t says whether it is one of these.
+module _ (layout : Layout) (f : List ℕ) (row least most k : ℕ) (t : Bool) (e : k ≡ kindOf (rowAt (sourceRows layout f) row)) (q : t ≡ leb least k && leb k most) where
+  abbrev chosen : Bool
+  chosen = ofKinds least most (rowAt (sourceRows layout f) row)
 
--- In a file of n rows the row whose kind byte k is at o; t says whether it is of these kinds.
-module _ (f : List ℕ) (n : ℕ) (F : Ready UnorderedRows f n) (row : ℕ) (h : row < n) (o : ℕ) (p : o ≡ rowOffset row) where
-  pub kind-inside : o < length f
-  kind-inside = omega (arith, F .file .inside row h)
+  chosen-is : t ≡ chosen
+  chosen-is = q ∙ ap (λ (x : ℕ). leb least x && leb x most) e
 
-  kind-is : byteAt f o ≡ kindOf (rowAt (netlistOf f) row)
-  kind-is = ap (byteAt f) p ∙ sym (ap kindOf (F .file .row-is row h) ∙ kind-decoded (readFields f row .kind) _ _ _ _ (F .known row h))
+  pub number-yes : (number : ℕ) → t ≡ true → number + 1 ≡ number + cond chosen 1 0
+  number-yes number y = rw (sym chosen-is ∙ y)
 
-  module _ (least most k : ℕ) (t : Bool) (e : k ≡ byteAt f o) (q : t ≡ leb least k && leb k most) where
-    abbrev chosen : Bool
-    chosen = ofKinds least most (rowAt (netlistOf f) row)
+  pub slot-yes : (number : ℕ) (w w′ : List ℕ) → t ≡ true → w′ ≡ setSlot w row (placedSlot + number) → w′ ≡ cond chosen (setSlot w row (placedSlot + number)) w
+  slot-yes number w w′ y u = rw (sym chosen-is ∙ y) u
 
-    chosen-is : t ≡ chosen
-    chosen-is = q ∙ ap (λ (x : ℕ). leb least x && leb x most) (e ∙ kind-is)
+  pub number-no : (number : ℕ) → t ≡ false → number ≡ number + cond chosen 1 0
+  number-no number y = rw (sym chosen-is ∙ y) (omega arith)
 
-    pub number-yes : (number : ℕ) → t ≡ true → number + 1 ≡ number + cond chosen 1 0
-    number-yes number y = rw (sym chosen-is ∙ y)
-
-    pub slot-yes : (number : ℕ) (w w′ : List ℕ) → t ≡ true → w′ ≡ setSlot w row (placedSlot + number) → w′ ≡ cond chosen (setSlot w row (placedSlot + number)) w
-    slot-yes number w w′ y u = rw (sym chosen-is ∙ y) u
-
-    pub number-no : (number : ℕ) → t ≡ false → number ≡ number + cond chosen 1 0
-    number-no number y = rw (sym chosen-is ∙ y) (omega arith)
-
-    pub slot-no : (number : ℕ) (w : List ℕ) → t ≡ false → w ≡ cond chosen (setSlot w row (placedSlot + number)) w
-    slot-no number w y = rw (sym chosen-is ∙ y)
+  pub slot-no : (number : ℕ) (w : List ℕ) → t ≡ false → w ≡ cond chosen (setSlot w row (placedSlot + number)) w
+  slot-no number w y = rw (sym chosen-is ∙ y)
 
 -- ---- rows numbered one after the other
 
@@ -150,10 +132,10 @@ pub record Numbering (rows : List Row) (least most number : ℕ) (w₀ w : List 
   pub slots : (i : ℕ) → i < length rows
       → slotAt w i ≡ cond (ltb i row && ofKinds least most (rowAt rows i)) (placedSlot + (number + newNumber (rowsThat rows (ofKinds least most)) i)) (slotAt w₀ i)
 
--- In a file of n rows.
-module _ (f : List ℕ) (n : ℕ) (F : Ready UnorderedRows f n) (least most number : ℕ) where
+-- In a source of n rows.
+module _ (layout : Layout) (f : List ℕ) (n : ℕ) (F : Source layout f n) (least most number : ℕ) where
   abbrev rows : List Row
-  rows = netlistOf f
+  rows = sourceRows layout f
 
   abbrev kinds : Row → Bool
   kinds = ofKinds least most
@@ -167,7 +149,7 @@ module _ (f : List ℕ) (n : ℕ) (F : Ready UnorderedRows f n) (least most numb
   module _ (w₀ w : List ℕ) (row next : ℕ) (N : Numbering rows least most number w₀ w row next) where
     module _ (h : row < n) (small : number ≤ n) where
       pub numbering-fits : placedSlot + next < 2 ^ 16
-      numbering-fits = omega (arith, F .file .few, N .count, below-le rows kinds row)
+      numbering-fits = omega (arith, F .few, N .count, below-le rows kinds row)
 
       module _ (w′ : List ℕ) (r : ℕ) (room : 2 * n ≤ length w₀) (er : r ≡ next + cond (kinds (rowAt rows row)) 1 0) (ew : w′ ≡ cond (kinds (rowAt rows row)) (setSlot w row (placedSlot + next)) w) where
         long-next : (t : Bool) → length (cond t (setSlot w row (placedSlot + next)) w) ≡ length w₀
@@ -176,9 +158,9 @@ module _ (f : List ℕ) (n : ℕ) (F : Ready UnorderedRows f n) (least most numb
 
         slot-here : (t : Bool) → kinds (rowAt rows row) ≡ t → slotAt (cond t (setSlot w row (placedSlot + next)) w) row ≡ cond (ltb row (row + 1) && kinds (rowAt rows row)) (numberOf row) (slotAt w₀ row)
         slot-here true e =
-            let q = below-number rows kinds (length rows) row (omega (arith, F .file .count)) e in
+            let q = below-number rows kinds (length rows) row (omega (arith, F .count)) e in
             rw (lt-ltb row (row + 1) (omega arith), e) (slot-same w row (placedSlot + next) (omega (arith, N .long)) numbering-fits ∙ omega (arith, N .count, q))
-        slot-here false e = rw (lt-ltb row (row + 1) (omega arith), e) (N .slots row (omega (arith, F .file .count)) ∙ rw (le-ltb row row (omega arith)))
+        slot-here false e = rw (lt-ltb row (row + 1) (omega arith), e) (N .slots row (omega (arith, F .count)) ∙ rw (le-ltb row row (omega arith)))
 
         slot-there : (t : Bool) (i : ℕ) → i < length rows → (i ≡ row → ⊥) → slotAt (cond t (setSlot w row (placedSlot + next)) w) i ≡ cond (ltb i (row + 1) && kinds (rowAt rows i)) (numberOf i) (slotAt w₀ i)
         slot-there true i l d = slot-other w row (placedSlot + next) i d ∙ N .slots i l ∙ rw (ltb-more i row d)
@@ -196,7 +178,7 @@ module _ (f : List ℕ) (n : ℕ) (F : Ready UnorderedRows f n) (least most numb
 
     module _ (h : row ≤ n) (k : n ≤ row) where
       pub numbering-done : KindsNumbered rows least most number w₀ w
-      numbering-done = record { slots = λ i l. N .slots i l ∙ rw (lt-ltb i row (omega (arith, F .file .count))) }
+      numbering-done = record { slots = λ i l. N .slots i l ∙ rw (lt-ltb i row (omega (arith, F .count))) }
 
       pub numbering-count : next ≡ number + length (rowsThat rows kinds)
-      numbering-count = N .count ∙ (let e : row ≡ length rows = omega (arith, F .file .count) in ap (λ (x : ℕ). number + length (below rows kinds x)) e)
+      numbering-count = N .count ∙ (let e : row ≡ length rows = omega (arith, F .count) in ap (λ (x : ℕ). number + length (below rows kinds x)) e)

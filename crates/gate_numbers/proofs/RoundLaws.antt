@@ -15,10 +15,7 @@ use Rattle.memory.proofs.TestLaws.{and-true, fails}
 use Rattle.memory.proofs.ListLaws.{first-is, first-found}
 use Rattle.memory.proofs.SlotLaws.{slot-other}
 use Rattle.netlist.specs.Rows.{Row, rowAt, isOutput, faninNodes}
-use Rattle.netlist.specs.FileFormat.{netlistOf}
-use Rattle.netlist.specs.WellFormed.{UnorderedRows}
 use Rattle.questions.specs.Questions.{noRefusal}
-use Rattle.blockfile.specs.Ready.{Ready}
 use Rattle.ordering.specs.GateOrder.{isGate, isSource, operandsOf, isIn, isReady, rowsThat, newNumber, lowestReady, placedGates, gateOrder, sortedOrder, IsGateOrder}
 use Rattle.ordering.specs.SortQuestions.{loopRefusal}
 use Rattle.ordering.proofs.PlacingLaws.{in-of, in-is, among-at, at-of, placed-well, order-is}
@@ -28,8 +25,10 @@ use Rattle.ordering.proofs.InOrder.{order-length}
 use Rattle.ordering.proofs.InOrder.{rounds-stay}
 use Rattle.ready_gates.specs.ReadySlots.{readySlot, firstReady, ReadyMarked, SlotsKept}
 use Rattle.ready_gates.proofs.ReadyLaws.{marked-first, set-same}
+use Rattle.gate_rows.specs.Sources.{sourceRows, Source}
+use Rattle.gate_rows.specs.declared.Layout.{Layout}
 use Rattle.gate_rows.proofs.RowLaws.{row-inside, IsNode, operands-nodes}
-use Rattle.gate_numbers.specs.Numbers.{placedSlot, Numbered, ofKinds, KindsNumbered, gateOf, Placed, NextGate, GatePlaced, nodeOrder}
+use Rattle.gate_numbers.specs.Numbers.{placedSlot, Numbered, ofKinds, KindsNumbered, gateOf, Placed, NextGate, GatePlaced, nodeOrder, NodesPlaced}
 use Rattle.gate_numbers.proofs.NumberLaws.{number-left, number-right, below-le}
 use Rattle.gate_numbers.proofs.WakingLaws.{all-cong}
 use Rattle.gate_numbers.proofs.SourceLaws.{output-kinds, node-kinds, same-rows, sources, in-rows, gate-no-source}
@@ -92,10 +91,14 @@ pub record Rounds (rows : List Row) (n number next low : ℕ) (w : List ℕ) : T
   pub marked : ReadyMarked n w low
   pub inside : low < n
 
--- In a file of n rows.
-module _ (f : List ℕ) (n : ℕ) (F : Ready UnorderedRows f n) where
+-- A node is placed if it is no gate, or a gate that is.
+node-in : (rows : List Row) (placed : List ℕ) (j : ℕ) → IsNode rows j → not (isGate (rowAt rows j)) || isIn j placed ≡ isIn j (sources rows ++ placed)
+node-in rows placed j N = rw (in-append j (sources rows) placed, in-rows rows isSource j (N .0), node-kinds (rowAt rows j) (N .1))
+
+-- In a source of n rows.
+module _ (layout : Layout) (f : List ℕ) (n : ℕ) (F : Source layout f n) where
   abbrev rows : List Row
-  rows = netlistOf f
+  rows = sourceRows layout f
 
   abbrev S : List ℕ
   S = sources rows
@@ -105,9 +108,6 @@ module _ (f : List ℕ) (n : ℕ) (F : Ready UnorderedRows f n) where
   abbrev after : ℕ → List ℕ
   after k = S ++ placedGates rows k
 
-  node-in : (placed : List ℕ) (j : ℕ) → IsNode rows j → not (isGate (rowAt rows j)) || isIn j placed ≡ isIn j (S ++ placed)
-  node-in placed j N = rw (in-append j S placed, in-rows rows isSource j (N .0), node-kinds (rowAt rows j) (N .1))
-
   -- A gate is ready in the model exactly if its operands are in the order.
   ready-is : (placed : List ℕ) (i : ℕ) → i < length rows → isReady rows placed i ≡ not (isIn i (S ++ placed)) && gateOf rows (λ j. isIn j (S ++ placed)) i
   ready-is placed i l = go (isGate (rowAt rows i)) refl
@@ -115,14 +115,14 @@ module _ (f : List ℕ) (n : ℕ) (F : Ready UnorderedRows f n) where
       go : (t : Bool) → isGate (rowAt rows i) ≡ t → isReady rows placed i ≡ not (isIn i (S ++ placed)) && gateOf rows (λ j. isIn j (S ++ placed)) i
       go true g =
           let e : isIn i (S ++ placed) ≡ isIn i placed = in-append i S placed ∙ rw (gate-no-source rows i l g) in
-          rw (g, e) (ap (λ (t : Bool). not (isIn i placed) && t) (all-cong (λ j. not (isGate (rowAt rows j)) || isIn j placed) (λ j. isIn j (S ++ placed)) (faninNodes (rowAt rows i)) (λ j a. node-in placed j (operands-nodes rows (rowAt rows i) (F .rows .operands i l) j (rw g a)))))
+          rw (g, e) (ap (λ (t : Bool). not (isIn i placed) && t) (all-cong (λ j. not (isGate (rowAt rows j)) || isIn j placed) (λ j. isIn j (S ++ placed)) (faninNodes (rowAt rows i)) (λ j a. node-in rows placed j (operands-nodes rows (rowAt rows i) (F .rows .operands i l) j (rw g a)))))
       go false g = rw g (and-none (not (isIn i (S ++ placed))))
 
   -- The order has what its gates name.
   closed : (k i j : ℕ) → i < length rows → isIn i (after k) ≡ true → Among j (operandsOf (rowAt rows i)) → isIn j (after k) ≡ true
   closed k i j l e a = elim (among-append i S (placedGates rows k) (in-is i (after k) e)) [
     | inl b ↦ absurd (elim (rw (fails (isGate (rowAt rows i)) (source-no-gate (rowAt rows i) (below-is rows isSource (length rows) i b .1))) at a) [ ])
-    | inr b ↦ sym (node-in (placedGates rows k) j (operands-nodes rows (rowAt rows i) (F .rows .operands i l) j a)) ∙ go (isGate (rowAt rows j)) refl (at-of i (placedGates rows k) b)
+    | inr b ↦ sym (node-in rows (placedGates rows k) j (operands-nodes rows (rowAt rows i) (F .rows .operands i l) j a)) ∙ go (isGate (rowAt rows j)) refl (at-of i (placedGates rows k) b)
   ]
     where
       go : (t : Bool) → isGate (rowAt rows j) ≡ t → (y : ℕ) × (y < length (placedGates rows k)) × (getD (placedGates rows k) y 0 ≡ i) → not t || isIn j (placedGates rows k) ≡ true
@@ -147,7 +147,7 @@ module _ (f : List ℕ) (n : ℕ) (F : Ready UnorderedRows f n) where
     lowest-is : firstReady n w ≡ lowestReady rows (placedGates rows k)
     unfolding lowestReady
     lowest-is =
-        let e : n - 0 ≡ length rows = omega (arith, F .file .count) in
+        let e : n - 0 ≡ length rows = omega (arith, F .count) in
         ap (λ (x : ℕ). firstFrom 0 x (λ j. eqb (slotAt w j) readySlot)) e
         ∙ first-cong 0 (length rows) (λ j. eqb (slotAt w j) readySlot) (isReady rows (placedGates rows k)) (λ j l. let m : j < length rows = omega arith in ready-slot rows (after k) w P j m ∙ sym (ready-is (placedGates rows k) j m))
 
@@ -161,13 +161,13 @@ module _ (f : List ℕ) (n : ℕ) (F : Ready UnorderedRows f n) where
 
       is-next : Next rows (after k) r
       is-next =
-          let l : r < length rows = row-inside f n F r inside in
+          let l : r < length rows = row-inside layout f n F r inside in
           let p = and-true (not (isIn r (after k))) _ (sym (ready-slot rows (after k) w P r l) ∙ eq-eqb (slotAt w r) readySlot is-ready) in
           record { unordered = F .rows .operands; inside = l; unplaced = not-true (isIn r (after k)) (p .0); ready = p .1; closed = closed k }
 
       after-next : after (suc k) ≡ after k ++ (r ∷ [])
       unfolding placedGates
-      after-next = rw (← lowest-is, ← q, lt-ltb r (length rows) (row-inside f n F r inside)) (sym (append-assoc S (placedGates rows k) (r ∷ [])))
+      after-next = rw (← lowest-is, ← q, lt-ltb r (length rows) (row-inside layout f n F r inside)) (sym (append-assoc S (placedGates rows k) (r ∷ [])))
 
   -- ---- all rounds
 
@@ -178,11 +178,11 @@ module _ (f : List ℕ) (n : ℕ) (F : Ready UnorderedRows f n) where
       record {
         first = e;
         from = omega arith;
-        upto = omega (arith, below-le rows isSource (length rows), F .file .count);
+        upto = omega (arith, below-le rows isSource (length rows), F .count);
         count = rw z (omega arith);
         placed = rw (z, append-nil S) P;
         marked = M;
-        inside = omega (arith, F .rows .has-output .4, F .file .count);
+        inside = omega (arith, F .rows .has-output .4, F .count);
       }
 
   module _ (number next low : ℕ) (w : List ℕ) (R : Rounds rows n number next low w) where
@@ -202,7 +202,7 @@ module _ (f : List ℕ) (n : ℕ) (F : Ready UnorderedRows f n) where
 
     module _ (m : n ≤ next) (h : loopRefusal rows ≡ noRefusal) where
       full : gateOrder rows ≡ placedGates rows k
-      full = full-is rows h k (omega (arith, R .upto, F .file .count)) (omega (arith, long, F .file .count))
+      full = full-is rows h k (omega (arith, R .upto, F .count)) (omega (arith, long, F .count))
 
       pub full-count : next ≡ length (nodeOrder rows)
       full-count = done-count full
@@ -216,25 +216,25 @@ module _ (f : List ℕ) (n : ℕ) (F : Ready UnorderedRows f n) where
         none : gateOrder rows ≡ placedGates rows k
         unfolding gateOrder
         none =
-            let u : length rows ≡ k + (length rows - k) = omega (arith, R .upto, F .file .count) in
-            ap (placedGates rows) u ∙ rounds-stay rows k (length rows - k) (sym (lowest-is k w (R .placed)) ∙ sym q ∙ z ∙ F .file .count)
+            let u : length rows ≡ k + (length rows - k) = omega (arith, R .upto, F .count) in
+            ap (placedGates rows) u ∙ rounds-stay rows k (length rows - k) (sym (lowest-is k w (R .placed)) ∙ sym q ∙ z ∙ F .count)
 
         pub none-count : next ≡ length (nodeOrder rows)
         none-count = done-count none
 
         pub none-placed : (w′ : List ℕ) → SlotsKept n w w′ → Placed rows (nodeOrder rows) w′
-        none-placed w′ K = record { slots = λ i l. K .slots i (omega (arith, F .file .count)) ∙ done-placed none .slots i l }
+        none-placed w′ K = record { slots = λ i l. K .slots i (omega (arith, F .count)) ∙ done-placed none .slots i l }
 
       pub round-gate : (r ≡ n → ⊥) → (w′ : List ℕ) → SlotsKept n w w′ → ReadyMarked n w′ low → NextGate rows n w′ r
       round-gate d w′ K M = record {
         inside = inside k w (R .placed) r q d;
         lowest = marked-first n w′ low M r (first-same w w′ K ∙ sym q);
         ready = K .slots r (inside k w (R .placed) r q d) ∙ is-ready k w (R .placed) r q d;
-        users = λ i l u. K .slots i (omega (arith, F .file .count)) ∙ user-slot rows (after k) r (is-next k w (R .placed) r q d) w (R .placed) i l u;
+        users = λ i l u. K .slots i (omega (arith, F .count)) ∙ user-slot rows (after k) r (is-next k w (R .placed) r q d) w (R .placed) i l u;
       }
 
     pub round-fits : next < n → placedSlot + next < 2 ^ 16
-    round-fits h = omega (arith, F .file .few)
+    round-fits h = omega (arith, F .few)
 
     -- A gate is placed.
     pub round-next : (r low′ next′ : ℕ) (w₁ w₂ : List ℕ) → GatePlaced rows n w₁ r next w₂ → SlotsKept n w w₁ → next < n → ReadyMarked n w₂ low′ → low′ ≤ r → next′ ≡ next + 1 → Rounds rows n number next′ low′ w₂
@@ -245,7 +245,7 @@ module _ (f : List ℕ) (n : ℕ) (F : Ready UnorderedRows f n) where
         let z : next′ - number ≡ suc k = omega (arith, R .from) in
         let a = after-next k w (R .placed) r q d in
         let here-is : slotAt (setSlot w₁ r (placedSlot + next)) r ≡ placedSlot + length (after k) = set-same n w₁ r r (placedSlot + next) (N .lowest) (N .inside) (round-fits h) ∙ ap (λ (x : ℕ). placedSlot + x) long in
-        let others : (i : ℕ) → i < length rows → (i ≡ r → ⊥) → slotAt (setSlot w₁ r (placedSlot + next)) i ≡ slotAt w i = λ i l d. slot-other w₁ r (placedSlot + next) i d ∙ K .slots i (omega (arith, F .file .count)) in
+        let others : (i : ℕ) → i < length rows → (i ≡ r → ⊥) → slotAt (setSlot w₁ r (placedSlot + next)) i ≡ slotAt w i = λ i l d. slot-other w₁ r (placedSlot + next) i d ∙ K .slots i (omega (arith, F .count)) in
         record {
           first = R .first;
           from = omega (arith, R .from);
@@ -256,36 +256,36 @@ module _ (f : List ℕ) (n : ℕ) (F : Ready UnorderedRows f n) where
           inside = omega (arith, N .inside);
         }
 
-  -- ---- the outputs numbered
+  pub nodes-fit : (w : List ℕ) (nodes : ℕ) → NodesPlaced rows w nodes → nodes ≤ n
+  nodes-fit w nodes D = omega (arith, D .count, all-counted rows (D .passed), F .count)
 
-  module _ (h : loopRefusal rows ≡ noRefusal) (nodes : ℕ) (e : nodes ≡ length (nodeOrder rows)) where
-    pub nodes-fit : nodes ≤ n
-    nodes-fit = omega (arith, all-counted rows h, F .file .count)
+-- ---- the outputs numbered
 
-    node-ordered : (i : ℕ) → i < length rows → isOutput (rowAt rows i) ≡ false → isIn i (nodeOrder rows) ≡ true
-    node-ordered i l o = sym (node-in (gateOrder rows) i (l, o)) ∙ go (isGate (rowAt rows i)) refl
+module _ (rows : List Row) (w : List ℕ) (nodes : ℕ) (D : NodesPlaced rows w nodes) where
+  node-ordered : (i : ℕ) → i < length rows → isOutput (rowAt rows i) ≡ false → isIn i (nodeOrder rows) ≡ true
+  node-ordered i l o = sym (node-in rows (gateOrder rows) i (l, o)) ∙ go (isGate (rowAt rows i)) refl
+    where
+      go : (t : Bool) → isGate (rowAt rows i) ≡ t → not t || isIn i (gateOrder rows) ≡ true
+      go true g = passes-all rows (D .passed) i l g
+      go false g = refl
+
+  output-unordered : (i : ℕ) → i < length rows → isOutput (rowAt rows i) ≡ true → isIn i (nodeOrder rows) ≡ false
+  output-unordered i l o = fails (isIn i (nodeOrder rows)) (λ t. node-no-output (rowAt rows i) (elim (among-append i (sources rows) (gateOrder rows) (in-is i (nodeOrder rows) t)) [
+    | inl a ↦ inl (below-is rows isSource (length rows) i a .1)
+    | inr a ↦ inr (let r = at-of i (gateOrder rows) a in subst (λ (z : ℕ). isGate (rowAt rows z) ≡ true) (r .2) (all-ordered rows (D .passed) .only (r .0) (r .1) .1))
+  ]) o)
+
+  module _ (w′ : List ℕ) (K : KindsNumbered rows 6 6 nodes w w′) where
+    abbrev Z : List ℕ
+    Z = rowsThat rows isOutput
+
+    slot-numbered : (i : ℕ) → i < length rows → slotAt w′ i ≡ placedSlot + newNumber (sortedOrder rows) i
+    unfolding sortedOrder
+    slot-numbered i l = K .slots i l ∙ rw (output-kinds (rowAt rows i), same-rows rows (ofKinds 6 6) isOutput output-kinds) (go (isOutput (rowAt rows i)) refl)
       where
-        go : (t : Bool) → isGate (rowAt rows i) ≡ t → not t || isIn i (gateOrder rows) ≡ true
-        go true g = passes-all rows h i l g
-        go false g = refl
+        go : (t : Bool) → isOutput (rowAt rows i) ≡ t → cond t (placedSlot + (nodes + newNumber Z i)) (slotAt w i) ≡ placedSlot + newNumber (nodeOrder rows ++ Z) i
+        go true o = omega (arith, number-right (nodeOrder rows) Z i (output-unordered i l o), D .count)
+        go false o = D .placed .slots i l ∙ rw (node-ordered i l o) (ap (λ (x : ℕ). placedSlot + x) (sym (number-left (nodeOrder rows) Z i (node-ordered i l o))))
 
-    output-unordered : (i : ℕ) → i < length rows → isOutput (rowAt rows i) ≡ true → isIn i (nodeOrder rows) ≡ false
-    output-unordered i l o = fails (isIn i (nodeOrder rows)) (λ t. node-no-output (rowAt rows i) (elim (among-append i S (gateOrder rows) (in-is i (nodeOrder rows) t)) [
-      | inl a ↦ inl (below-is rows isSource (length rows) i a .1)
-      | inr a ↦ inr (let r = at-of i (gateOrder rows) a in subst (λ (z : ℕ). isGate (rowAt rows z) ≡ true) (r .2) (all-ordered rows h .only (r .0) (r .1) .1))
-    ]) o)
-
-    module _ (w w′ : List ℕ) (P : Placed rows (nodeOrder rows) w) (K : KindsNumbered rows 6 6 nodes w w′) where
-      abbrev Z : List ℕ
-      Z = rowsThat rows isOutput
-
-      slot-numbered : (i : ℕ) → i < length rows → slotAt w′ i ≡ placedSlot + newNumber (sortedOrder rows) i
-      unfolding sortedOrder
-      slot-numbered i l = K .slots i l ∙ rw (output-kinds (rowAt rows i), same-rows rows (ofKinds 6 6) isOutput output-kinds) (go (isOutput (rowAt rows i)) refl)
-        where
-          go : (t : Bool) → isOutput (rowAt rows i) ≡ t → cond t (placedSlot + (nodes + newNumber Z i)) (slotAt w i) ≡ placedSlot + newNumber (nodeOrder rows ++ Z) i
-          go true o = omega (arith, number-right (nodeOrder rows) Z i (output-unordered i l o))
-          go false o = P .slots i l ∙ rw (node-ordered i l o) (ap (λ (x : ℕ). placedSlot + x) (sym (number-left (nodeOrder rows) Z i (node-ordered i l o))))
-
-      pub all-numbered : Numbered rows w′
-      all-numbered = record { slots = slot-numbered }
+    pub all-numbered : Numbered rows w′
+    all-numbered = record { slots = slot-numbered }

@@ -14,13 +14,12 @@ use Rattle.memory.proofs.TestLaws.{fails}
 use Rattle.memory.proofs.ListLaws.{join-cong}
 use Rattle.memory.proofs.SlotLaws.{slots-cleared}
 use Rattle.netlist.specs.Rows.{Row, constant, input, register, andGate, xorGate, muxGate, output, rowAt, isOutput}
-use Rattle.netlist.specs.FileFormat.{netlistOf}
-use Rattle.netlist.specs.WellFormed.{UnorderedRows}
-use Rattle.blockfile.specs.Ready.{Ready}
 use Rattle.ordering.specs.GateOrder.{isGate, isSource, isIn, rowsThat, newNumber}
 use Rattle.ordering.proofs.PlacingLaws.{in-of, in-is}
 use Rattle.ordering.proofs.OrderLaws.{below-is, below-in, source-no-gate}
 use Rattle.ready_gates.specs.ReadySlots.{readySlot, ReadyRoom, ReadyMarked}
+use Rattle.gate_rows.specs.Sources.{sourceRows, Source}
+use Rattle.gate_rows.specs.declared.Layout.{Layout}
 use Rattle.gate_rows.proofs.RowLaws.{operands-nodes}
 use Rattle.gate_numbers.specs.Numbers.{placedSlot, isPlacedIn, ofKinds, KindsNumbered, SourcesNumbered, gateOf, Woken, Placed}
 use Rattle.gate_numbers.proofs.NumberLaws.{ltb-more}
@@ -81,10 +80,10 @@ rowsBelow row i = ltb i row
 below-more : (i x : ℕ) → ltb i (x + 1) ≡ eqb x i || ltb i x
 below-more i x = elim (ℕ-discrete i x) [ yes e ↦ rw (e, lt-ltb x (x + 1) (omega arith), eq-eqb x x refl) | no d ↦ rw (ne-eqb x i (λ z. d (sym z))) (ltb-more i x d) ]
 
--- In a file of n rows.
-module _ (f : List ℕ) (n : ℕ) (F : Ready UnorderedRows f n) where
+-- In a source of n rows.
+module _ (layout : Layout) (f : List ℕ) (n : ℕ) (F : Source layout f n) where
   abbrev rows : List Row
-  rows = netlistOf f
+  rows = sourceRows layout f
 
   abbrev S : List ℕ
   S = sources rows
@@ -102,7 +101,7 @@ module _ (f : List ℕ) (n : ℕ) (F : Ready UnorderedRows f n) where
   }
 
   pub none-marked : (w : List ℕ) → SourcesNumbered rows w → ReadyRoom n w → ReadyMarked n w 0
-  none-marked w N room = record { room = room; marked = λ i l e. absurd (unready i (omega (arith, F .file .count)) e); above = λ i l e. omega arith }
+  none-marked w N room = record { room = room; marked = λ i l e. absurd (unready i (omega (arith, F .count)) e); above = λ i l e. omega arith }
     where
       unready : (i : ℕ) → i < length rows → slotAt w i ≡ readySlot → ⊥
       unready i l e = go (isIn i S) (sym (N .slots i l) ∙ e)
@@ -128,7 +127,7 @@ module _ (f : List ℕ) (n : ℕ) (F : Ready UnorderedRows f n) where
         go false = refl
 
     pub found-all : n ≤ row → Placed rows S w
-    found-all h = record { slots = λ i l. W .slots i l ∙ rw (lt-ltb i row (omega (arith, F .file .count)), ready-same i l, N .slots i l) (go i l (isIn i S) refl) }
+    found-all h = record { slots = λ i l. W .slots i l ∙ rw (lt-ltb i row (omega (arith, F .count)), ready-same i l, N .slots i l) (go i l (isIn i S) refl) }
       where
         ready-same : (i : ℕ) → i < length rows → gateOf rows (isPlacedIn w₀) i ≡ gateOf rows (λ j. isIn j S) i
         ready-same i l = gate-cong rows (isPlacedIn w₀) (λ j. isIn j S) i (λ j a. source-placed j (operands-nodes rows (rowAt rows i) (F .rows .operands i l) j a .0))

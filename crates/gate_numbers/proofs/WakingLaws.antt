@@ -9,18 +9,18 @@ use native.Mathlib.Decide.{decLt, ℕ-discrete}
 use lib.ListN.{length, getD}
 use lib.Dec.{eqb, ltb, leb}
 use borrow.Author.Tests.{eq-eqb, ne-eqb, ltb-true, lt-ltb, le-ltb, le-leb, lt-leb}
-use Rattle.memory.specs.Lists.{Among, here, there}
+use Rattle.memory.specs.Lists.{allOf, Among, here, there}
 use Rattle.memory.specs.Slots.{slotAt, setSlot}
 use Rattle.memory.proofs.SlotLaws.{slot-other}
 use Rattle.memory.proofs.TestLaws.{and-true, fails}
 use Rattle.netlist.specs.Rows.{Row, constant, input, register, andGate, xorGate, muxGate, output, rowAt}
-use Rattle.netlist.specs.FileFormat.{netlistOf}
-use Rattle.netlist.specs.WellFormed.{Unordered, UnorderedRows}
-use Rattle.blockfile.specs.Ready.{Ready}
-use Rattle.ordering.specs.GateOrder.{isGate, operandsOf, allOf}
+use Rattle.netlist.specs.WellFormed.{Unordered}
+use Rattle.ordering.specs.GateOrder.{isGate, operandsOf}
 use Rattle.ordering.proofs.PlacingLaws.{among-at, at-of, all-at, all-of}
 use Rattle.ready_gates.specs.ReadySlots.{readySlot, ReadyMarked, MadeReady}
 use Rattle.ready_gates.proofs.ReadyLaws.{marked-placed}
+use Rattle.gate_rows.specs.Sources.{sourceRows, Source}
+use Rattle.gate_rows.specs.declared.Layout.{Layout}
 use Rattle.gate_rows.proofs.RowLaws.{operands-nodes, operand-row, row-inside}
 use Rattle.gate_users.specs.Users.{uses, lastUser}
 use Rattle.gate_users.proofs.UserLaws.{last-below, last-less, last-uses, last-above, constant-uses}
@@ -49,8 +49,8 @@ pub gate-cong : (rows : List Row) (f g : ℕ → Bool) (i : ℕ) → ((j : ℕ) 
 gate-cong rows f g i h = ap (λ (t : Bool). isGate (rowAt rows i) && t) (all-cong f g (operandsOf (rowAt rows i)) h)
 
 -- Operand number k of row x has a slot.
-pub operand-slot : (f : List ℕ) (n : ℕ) → Ready UnorderedRows f n → (x : ℕ) → x < n → (w : List ℕ) (count k j : ℕ) → 2 * n ≤ length w → count ≡ length (operandsOf (rowAt (netlistOf f) x)) → k < count → j ≡ getD (operandsOf (rowAt (netlistOf f) x)) k 0 → 2 * j + 2 ≤ length w
-operand-slot f n F x h w count k j room m l e = omega (arith, operand-row (netlistOf f) (F .rows) x k (row-inside f n F x h) (omega arith), F .file .count, e)
+pub operand-slot : (layout : Layout) (f : List ℕ) (n : ℕ) → Source layout f n → (x : ℕ) → x < n → (w : List ℕ) (count k j : ℕ) → 2 * n ≤ length w → count ≡ length (operandsOf (rowAt (sourceRows layout f) x)) → k < count → j ≡ getD (operandsOf (rowAt (sourceRows layout f) x)) k 0 → 2 * j + 2 ≤ length w
+operand-slot layout f n F x h w count k j room m l e = omega (arith, operand-row (sourceRows layout f) (F .rows) x k (row-inside layout f n F x h) (omega arith), F .count, e)
 
 -- ---- all of them placed
 
@@ -134,11 +134,11 @@ woken-join rows a b c w₀ w w′ U h A X Y = record { slots = slots }
         ∙ rw (ready-same i l, X .slots i l, h i l) (either (b i) (a i) (gateOf rows (isPlacedIn w₀) i) (slotAt w₀ i))
 
 -- One row alone.
-module _ (f : List ℕ) (n : ℕ) (F : Ready UnorderedRows f n) (x : ℕ) (w : List ℕ) where
-  pub row-woken : (t : Bool) (w′ : List ℕ) → t ≡ gateOf (netlistOf f) (isPlacedIn w) x → t ≡ true → MadeReady n w x w′ → Woken (netlistOf f) (eqb x) w w′
-  row-woken t w′ e y M = record { slots = λ i l. elim (ℕ-discrete i x) [ yes q ↦ rw (q, eq-eqb x x refl, ← e, y) (M .ready) | no d ↦ rw (ne-eqb x i (λ z. d (sym z))) (M .others i (omega (arith, F .file .count)) d) ] }
+module _ (layout : Layout) (f : List ℕ) (n : ℕ) (F : Source layout f n) (x : ℕ) (w : List ℕ) where
+  pub row-woken : (t : Bool) (w′ : List ℕ) → t ≡ gateOf (sourceRows layout f) (isPlacedIn w) x → t ≡ true → MadeReady n w x w′ → Woken (sourceRows layout f) (eqb x) w w′
+  row-woken t w′ e y M = record { slots = λ i l. elim (ℕ-discrete i x) [ yes q ↦ rw (q, eq-eqb x x refl, ← e, y) (M .ready) | no d ↦ rw (ne-eqb x i (λ z. d (sym z))) (M .others i (omega (arith, F .count)) d) ] }
 
-  pub row-asleep : (t : Bool) → t ≡ gateOf (netlistOf f) (isPlacedIn w) x → t ≡ false → Woken (netlistOf f) (eqb x) w w
+  pub row-asleep : (t : Bool) → t ≡ gateOf (sourceRows layout f) (isPlacedIn w) x → t ≡ false → Woken (sourceRows layout f) (eqb x) w w
   row-asleep t e y = record { slots = λ i l. elim (ℕ-discrete i x) [ yes q ↦ rw (q, eq-eqb x x refl, ← e, y) | no d ↦ rw (ne-eqb x i (λ z. d (sym z))) ] }
 
 -- No row is below row 0.
@@ -154,9 +154,9 @@ usersAbove rows node user i = uses rows i node && ltb user i
 abbrev pub NextUser : List Row → ℕ → ℕ → Type 0
 NextUser rows node user = (user ≡ 0 → ⊥) → (user < length rows) × (uses rows user node ≡ true)
 
-module _ (f : List ℕ) (n : ℕ) (F : Ready UnorderedRows f n) where
+module _ (layout : Layout) (f : List ℕ) (n : ℕ) (F : Source layout f n) where
   abbrev rows : List Row
-  rows = netlistOf f
+  rows = sourceRows layout f
 
   -- The node is placed: w becomes w₀.
   module _ (w w₀ : List ℕ) (node number : ℕ) (N : NextGate rows n w node) (u : w₀ ≡ setSlot w node (placedSlot + number)) where
@@ -176,17 +176,17 @@ module _ (f : List ℕ) (n : ℕ) (F : Ready UnorderedRows f n) where
     users-none w user e = woken-none rows (usersAbove rows node user) w (λ i l. fails (uses rows i node && ltb user i) (λ t.
         let p = and-true (uses rows i node) _ t in
         let a = ltb-true user i (p .1) in
-        let b = last-above rows node n i (omega (arith, F .file .count)) (p .0) in
+        let b = last-above rows node n i (omega (arith, F .count)) (p .0) in
         omega arith))
 
     pub user-first : (user : ℕ) → user ≡ lastUser rows node n → NextUser rows node user
     user-first user e d =
         let z : lastUser rows node n ≡ 0 → ⊥ = λ q. d (e ∙ q) in
-        (omega (arith, last-below rows node n z, F .file .count), rw e (last-uses rows node n z))
+        (omega (arith, last-below rows node n z, F .count), rw e (last-uses rows node n z))
 
     module _ (user : ℕ) (d : user ≡ 0 → ⊥) (N : NextUser rows node user) where
       pub user-inside : user < n
-      user-inside = omega (arith, N d .0, F .file .count)
+      user-inside = omega (arith, N d .0, F .count)
 
       pub user-uses : uses rows user node ≡ true
       user-uses = N d .1

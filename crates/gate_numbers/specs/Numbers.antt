@@ -1,5 +1,5 @@
 -- The rows' new numbers in slots of two bytes: while gates are placed, and once every row has its number.
--- Interface: placedSlot, Numbered; inside the crate ofKinds, KindsNumbered, SourcesNumbered, isPlacedIn, gateOf, usersOf, Woken, Placed, NextGate, GatePlaced, nodeOrder.
+-- Interface: placedSlot, Numbered; inside the crate ofKinds, KindsNumbered, SourcesNumbered, isPlacedIn, gateOf, usersOf, Woken, Placed, NextGate, GatePlaced, nodeOrder, NodesPlaced.
 -- Assumes nothing.
 use Prim.Native.Nat.{ℕ, _+_, _<_}
 use mathlib.Core.Path.{_≡_}
@@ -7,9 +7,12 @@ use mathlib.Core.Bool.{Bool, true, cond, _&&_}
 use mathlib.Core.List.{List, _++_}
 use lib.ListN.{length}
 use lib.Dec.{leb}
+use Rattle.memory.specs.Lists.{allOf}
 use Rattle.memory.specs.Slots.{slotAt, setSlot}
 use Rattle.netlist.specs.Rows.{Row, rowAt, kindOf}
-use Rattle.ordering.specs.GateOrder.{isGate, isSource, operandsOf, isIn, allOf, gateOrder, rowsThat, newNumber, sortedOrder}
+use Rattle.questions.specs.Questions.{noRefusal}
+use Rattle.ordering.specs.GateOrder.{isGate, isSource, operandsOf, isIn, gateOrder, rowsThat, newNumber, sortedOrder}
+use Rattle.ordering.specs.SortQuestions.{loopRefusal}
 use Rattle.ready_gates.specs.ReadySlots.{readySlot, ReadyMarked}
 use Rattle.gate_users.specs.Users.{uses}
 
@@ -76,3 +79,9 @@ pub record GatePlaced (rows : List Row) (n : ℕ) (w : List ℕ) (r number : ℕ
 -- The new order up to the outputs.
 abbrev pub nodeOrder : List Row → List ℕ
 nodeOrder rows = rowsThat rows isSource ++ gateOrder rows
+
+-- Every gate can be placed, and all n nodes are.
+pub record NodesPlaced (rows : List Row) (w : List ℕ) (n : ℕ) : Type 0 where
+  pub passed : loopRefusal rows ≡ noRefusal
+  pub count : n ≡ length (nodeOrder rows)
+  pub placed : Placed rows (nodeOrder rows) w

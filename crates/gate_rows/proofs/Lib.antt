@@ -1,3 +1,5 @@
--- The operands of gates, from the bytes of their rows, and what is known of a file of gates in any order.
+-- Rows by their layout, the operands of gates, and what is known of rows whose gates stand in any order.
+pub mod SourceLaws
+pub mod PairLaws
 pub mod OperandLaws
 pub mod RowLaws

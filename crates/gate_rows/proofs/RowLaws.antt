@@ -1,4 +1,4 @@
--- What code that goes through the gates of a file in any order knows: its rows, and the nodes that their operands name.
+-- What code that goes through gates in any order knows: the rows, and the nodes that their operands name.
 -- Assumes nothing.
 use Prim.Native.Nat.{ℕ, _<_}
 use mathlib.Core.Path.{_≡_, subst}
@@ -8,11 +8,11 @@ use native.Mathlib.Omega.{arith}
 use lib.ListN.{length, getD}
 use Rattle.memory.specs.Lists.{Among, here, there}
 use Rattle.netlist.specs.Rows.{Row, constant, input, register, andGate, xorGate, muxGate, output, rowAt, isOutput}
-use Rattle.netlist.specs.FileFormat.{netlistOf}
 use Rattle.netlist.specs.WellFormed.{NamesNode, OnLiterals, UnorderedRows}
 use Rattle.ordering.specs.GateOrder.{operandsOf}
 use Rattle.ordering.proofs.PlacingLaws.{among-at}
-use Rattle.blockfile.specs.Ready.{HasRows, Ready}
+use Rattle.gate_rows.specs.Sources.{sourceRows, Source}
+use Rattle.gate_rows.specs.declared.Layout.{Layout}
 
 of-two : (P : ℕ → Type 0) (x y : ℕ) → P x → P y → (j : ℕ) → Among j (x ∷ y ∷ []) → P j
 of-two P x y p q j here = p
@@ -43,9 +43,10 @@ operand-below rows U i l x a = operands-nodes rows (rowAt rows i) (U .operands i
 pub operand-row : (rows : List Row) → UnorderedRows rows → (x k : ℕ) → x < length rows → k < length (operandsOf (rowAt rows x)) → getD (operandsOf (rowAt rows x)) k 0 < length rows
 operand-row rows U x k h l = operand-below rows U x h (getD (operandsOf (rowAt rows x)) k 0) (among-at k (operandsOf (rowAt rows x)) l)
 
-module _ (f : List ℕ) (n : ℕ) (F : Ready UnorderedRows f n) where
-  pub rows-all : HasRows f (length (netlistOf f))
-  rows-all = subst (HasRows f) (F .file .count) (F .file)
+-- A source of n rows: as many as there are.
+module _ (l : Layout) (s : List ℕ) (n : ℕ) (S : Source l s n) where
+  pub rows-all : Source l s (length (sourceRows l s))
+  rows-all = subst (Source l s) (S .count) S
 
-  pub row-inside : (i : ℕ) → i < n → i < length (netlistOf f)
-  row-inside i h = omega (arith, F .file .count)
+  pub row-inside : (i : ℕ) → i < n → i < length (sourceRows l s)
+  row-inside i h = omega (arith, S .count)

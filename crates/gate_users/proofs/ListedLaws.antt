@@ -18,11 +18,10 @@ use Rattle.memory.proofs.FieldLaws.{zeros-at}
 use Rattle.memory.proofs.FrameLaws.{kept-none, kept-join, kept-sets, u16-kept, u16-back}
 use Rattle.memory.proofs.SlotLaws.{slot-same, slot-other}
 use Rattle.netlist.specs.Rows.{Row, constant, input, register, andGate, xorGate, muxGate, output, rowAt}
-use Rattle.netlist.specs.FileFormat.{netlistOf}
-use Rattle.netlist.specs.WellFormed.{UnorderedRows}
 use Rattle.ordering.specs.GateOrder.{isIn, operandsOf}
 use Rattle.ordering.proofs.PlacingLaws.{in-is, at-of}
-use Rattle.blockfile.specs.Ready.{Ready}
+use Rattle.gate_rows.specs.Sources.{sourceRows, Source}
+use Rattle.gate_rows.specs.declared.Layout.{Layout}
 use Rattle.gate_rows.proofs.RowLaws.{operand-row, row-inside}
 use Rattle.gate_users.specs.Users.{uses, lastUser, Listed, HeadsKept, HeadsSet}
 use Rattle.gate_users.proofs.UserLaws.{last-more}
@@ -110,31 +109,31 @@ set-last rows x ys u u′ node h room H below = record {
     never true z = refl
     never false z = refl
 
--- ---- rows of a file
+-- ---- rows of a source
 
-module _ (f : List ℕ) (n : ℕ) (F : Ready UnorderedRows f n) where
+module _ (layout : Layout) (f : List ℕ) (n : ℕ) (F : Source layout f n) where
   abbrev rows : List Row
-  rows = netlistOf f
+  rows = sourceRows layout f
 
-  pub ready-all : Ready UnorderedRows f (length (netlistOf f))
-  ready-all = subst (Ready UnorderedRows f) (F .file .count) F
+  pub ready-all : Source layout f (length (sourceRows layout f))
+  ready-all = subst (Source layout f) (F .count) F
 
-  pub room-all : (u u′ : List ℕ) → 8 * n ≤ length u → length u′ ≡ length u → 8 * length (netlistOf f) ≤ length u′
-  room-all u u′ h e = omega (arith, F .file .count)
+  pub room-all : (u u′ : List ℕ) → 8 * n ≤ length u → length u′ ≡ length u → 8 * length (sourceRows layout f) ≤ length u′
+  room-all u u′ h e = omega (arith, F .count)
 
   -- Row x, which has `count` operands.
-  module _ (x : ℕ) (h : x < n) (count : ℕ) (c : count ≡ length (operandsOf (rowAt (netlistOf f) x))) where
+  module _ (x : ℕ) (h : x < n) (count : ℕ) (c : count ≡ length (operandsOf (rowAt (sourceRows layout f) x))) where
     abbrev operands : List ℕ
     operands = operandsOf (rowAt rows x)
 
-    pub index-in : (k : ℕ) → k < count → k < length (operandsOf (rowAt (netlistOf f) x))
+    pub index-in : (k : ℕ) → k < count → k < length (operandsOf (rowAt (sourceRows layout f) x))
     index-in k l = omega arith
 
     node-below : (k node : ℕ) → k < count → node ≡ getD operands k 0 → node < length rows
-    node-below k node l e = omega (arith, e, operand-row rows (F .rows) x k (row-inside f n F x h) (index-in k l))
+    node-below k node l e = omega (arith, e, operand-row rows (F .rows) x k (row-inside layout f n F x h) (index-in k l))
 
-    pub node-room : (k node : ℕ) (u u′ : List ℕ) → k < count → node ≡ getD (operandsOf (rowAt (netlistOf f) x)) k 0 → 8 * n ≤ length u → length u′ ≡ length u → 2 * node + 2 ≤ length u′
-    node-room k node u u′ l e room long = omega (arith, node-below k node l e, F .file .count)
+    pub node-room : (k node : ℕ) (u u′ : List ℕ) → k < count → node ≡ getD (operandsOf (rowAt (sourceRows layout f) x)) k 0 → 8 * n ≤ length u → length u′ ≡ length u → 2 * node + 2 ≤ length u′
+    node-room k node u u′ l e room long = omega (arith, node-below k node l e, F .count)
 
     few : count ≤ 3
     few = omega (arith, operands-few (rowAt rows x))
@@ -143,35 +142,35 @@ module _ (f : List ℕ) (n : ℕ) (F : Ready UnorderedRows f n) where
         (u u′ u″ : List ℕ) (k node v o : ℕ)
         → 8 * n ≤ length u
         → k < count
-        → HeadsKept (netlistOf f) x k u u′
-        → node ≡ getD (operandsOf (rowAt (netlistOf f) x)) k 0
+        → HeadsKept (sourceRows layout f) x k u u′
+        → node ≡ getD (operandsOf (rowAt (sourceRows layout f) x)) k 0
         → v ≡ slotAt u′ node
         → v < 2 ^ 16
         → o ≡ 2 * n + 6 * x + 2 * k
         → u″ ≡ sets u′ o (u16Bytes v)
-        → HeadsKept (netlistOf f) x (k + 1) u u″
+        → HeadsKept (sourceRows layout f) x (k + 1) u u″
     keep-next u u′ u″ k node v o room l H p e small q w =
-        let at : o ≡ 2 * length rows + 6 * x + 2 * k = omega (arith, F .file .count) in
-        rw (w, at) (keep-more rows x k u u′ node v (row-inside f n F x h) (omega (arith, few)) (omega (arith, F .file .count)) H (node-below k node l p) p e small)
+        let at : o ≡ 2 * length rows + 6 * x + 2 * k = omega (arith, F .count) in
+        rw (w, at) (keep-more rows x k u u′ node v (row-inside layout f n F x h) (omega (arith, few)) (omega (arith, F .count)) H (node-below k node l p) p e small)
 
     -- Every operand has its entry.
-    pub keep-end : (u u′ : List ℕ) (k : ℕ) → HeadsKept (netlistOf f) x k u u′ → count ≤ k → HeadsKept (netlistOf f) x (length (operandsOf (rowAt (netlistOf f) x))) u u′
+    pub keep-end : (u u′ : List ℕ) (k : ℕ) → HeadsKept (sourceRows layout f) x k u u′ → count ≤ k → HeadsKept (sourceRows layout f) x (length (operandsOf (rowAt (sourceRows layout f) x))) u u′
     keep-end u u′ k H l = record { entries = λ i b. H .entries i (omega arith); others = H .others }
 
     pub set-next :
         (u u′ u″ : List ℕ) (k node : ℕ)
         → 8 * n ≤ length u
         → k < count
-        → HeadsSet (netlistOf f) x (take k (operandsOf (rowAt (netlistOf f) x))) u u′
-        → node ≡ getD (operandsOf (rowAt (netlistOf f) x)) k 0
+        → HeadsSet (sourceRows layout f) x (take k (operandsOf (rowAt (sourceRows layout f) x))) u u′
+        → node ≡ getD (operandsOf (rowAt (sourceRows layout f) x)) k 0
         → u″ ≡ setSlot u′ node x
-        → HeadsSet (netlistOf f) x (take (k + 1) (operandsOf (rowAt (netlistOf f) x))) u u″
+        → HeadsSet (sourceRows layout f) x (take (k + 1) (operandsOf (rowAt (sourceRows layout f) x))) u u″
     set-next u u′ u″ k node room l H p w =
         rw (w, add-one k, take-suc operands k 0 (index-in k l), ← p)
-        (set-last rows x (take k operands) u u′ node (omega (arith, F .file .few)) (omega (arith, F .file .count)) H (node-below k node l p))
+        (set-last rows x (take k operands) u u′ node (omega (arith, F .few)) (omega (arith, F .count)) H (node-below k node l p))
 
     -- The row is the head of each list.
-    pub set-end : (u u′ : List ℕ) (k : ℕ) → HeadsSet (netlistOf f) x (take k (operandsOf (rowAt (netlistOf f) x))) u u′ → k ≤ count → count ≤ k → HeadsSet (netlistOf f) x (operandsOf (rowAt (netlistOf f) x)) u u′
+    pub set-end : (u u′ : List ℕ) (k : ℕ) → HeadsSet (sourceRows layout f) x (take k (operandsOf (rowAt (sourceRows layout f) x))) u u′ → k ≤ count → count ≤ k → HeadsSet (sourceRows layout f) x (operandsOf (rowAt (sourceRows layout f) x)) u u′
     set-end u u′ k H a b =
         let e : k ≡ length operands = omega arith in
         subst (λ (ys : List ℕ). HeadsSet rows x ys u u′) (ap (λ (i : ℕ). take i operands) e ∙ take-length operands) H
@@ -198,24 +197,24 @@ module _ (n : ℕ) (u : List ℕ) (room : 8 * n ≤ length u) where
         List·getD-append p (drop (2 * n) u) 0 i (omega (arith, ap length e, length-replicate {A = ℕ} (length (take (2 * n) u)) 0, part-long))
         ∙ ap (λ (l : List ℕ). byteAt l i) e ∙ zeros-at (length (take (2 * n) u)) i
 
-    pub cleared-listed : (f : List ℕ) → Ready UnorderedRows f n → Listed (netlistOf f) (p ++ drop (2 * n) u) 0
+    pub cleared-listed : (layout : Layout) (f : List ℕ) → Source layout f n → Listed (sourceRows layout f) (p ++ drop (2 * n) u) 0
     unfolding lastUser
-    cleared-listed f F = record {
+    cleared-listed layout f F = record {
       heads = λ y h.
-          let l : y < n = omega (arith, F .file .count) in
+          let l : y < n = omega (arith, F .count) in
           omega (arith, cleared-at (2 * y) (omega arith), cleared-at (2 * y + 1) (omega arith));
       entries = λ x k h. absurd (omega arith);
     }
 
 -- One row more: the heads that it finds become its entries, then it becomes the head.
-module _ (f : List ℕ) (n m : ℕ) (u v w : List ℕ)
-    (S : HeadsSet (netlistOf f) m (operandsOf (rowAt (netlistOf f) m)) v w)
-    (H : HeadsKept (netlistOf f) m (length (operandsOf (rowAt (netlistOf f) m))) u v)
-    (L : Listed (netlistOf f) u m)
-    (F : Ready UnorderedRows f n)
+module _ (layout : Layout) (f : List ℕ) (n m : ℕ) (u v w : List ℕ)
+    (S : HeadsSet (sourceRows layout f) m (operandsOf (rowAt (sourceRows layout f) m)) v w)
+    (H : HeadsKept (sourceRows layout f) m (length (operandsOf (rowAt (sourceRows layout f) m))) u v)
+    (L : Listed (sourceRows layout f) u m)
+    (F : Source layout f n)
     (h : m < n) where
   abbrev listed : List Row
-  listed = netlistOf f
+  listed = sourceRows layout f
 
   head : (y : ℕ) → y < length listed → slotAt w y ≡ lastUser listed y (m + 1)
   head y l = S .heads y l ∙ ap (cond (uses listed m y) m) (u16-kept (H .others) (2 * y) (λ z a b c d. omega arith) ∙ L .heads y l) ∙ sym (last-more listed y m)
@@ -231,9 +230,9 @@ module _ (f : List ℕ) (n m : ℕ) (u v w : List ℕ)
   own : (k : ℕ) → k < length (operandsOf (rowAt listed m)) → u16At w (2 * length listed + 6 * m + 2 * k) ≡ lastUser listed (getD (operandsOf (rowAt listed m)) k 0) m
   own k b =
       entry-stays m k ∙ H .entries k b
-      ∙ L .heads (getD (operandsOf (rowAt listed m)) k 0) (operand-row listed (F .rows) m k (row-inside f n F m h) b)
+      ∙ L .heads (getD (operandsOf (rowAt listed m)) k 0) (operand-row listed (F .rows) m k (row-inside layout f n F m h) b)
 
-  pub listed-more : Listed (netlistOf f) w (m + 1)
+  pub listed-more : Listed (sourceRows layout f) w (m + 1)
   listed-more = record {
     heads = head;
     entries = λ x k l b. last-or x m (omega arith) (λ q. earlier x k q b) (λ q. rw q (own k (rw q at b)));
@@ -254,18 +253,18 @@ among-none ys node i h = absurd (omega arith)
 pub among-more : (ys : List ℕ) (k node other : ℕ) → NotAmong ys k node → other ≡ getD ys k 0 → (other ≡ node → ⊥) → NotAmong ys (k + 1) node
 among-more ys k node other h e d i l q = last-or i k (omega arith) (λ b. h i b q) (λ p. d (e ∙ ap (λ (z : ℕ). getD ys z 0) (sym p) ∙ q))
 
-module _ (f : List ℕ) (n : ℕ) (F : Ready UnorderedRows f n) (u : List ℕ) (L : Listed (netlistOf f) u n) where
-  pub head-is : (y r : ℕ) → y < n → r ≡ slotAt u y → r ≡ lastUser (netlistOf f) y n
-  head-is y r h e = e ∙ L .heads y (row-inside f n F y h)
+module _ (layout : Layout) (f : List ℕ) (n : ℕ) (F : Source layout f n) (u : List ℕ) (L : Listed (sourceRows layout f) u n) where
+  pub head-is : (y r : ℕ) → y < n → r ≡ slotAt u y → r ≡ lastUser (sourceRows layout f) y n
+  head-is y r h e = e ∙ L .heads y (row-inside layout f n F y h)
 
-  module _ (x : ℕ) (h : x < n) (count : ℕ) (c : count ≡ length (operandsOf (rowAt (netlistOf f) x))) (k : ℕ) (node : ℕ) where
-    pub entry-is : (other o r : ℕ) → k < count → other ≡ getD (operandsOf (rowAt (netlistOf f) x)) k 0 → other ≡ node → o ≡ 2 * n + 6 * x + 2 * k → r ≡ u16At u o → r ≡ lastUser (netlistOf f) node x
+  module _ (x : ℕ) (h : x < n) (count : ℕ) (c : count ≡ length (operandsOf (rowAt (sourceRows layout f) x))) (k : ℕ) (node : ℕ) where
+    pub entry-is : (other o r : ℕ) → k < count → other ≡ getD (operandsOf (rowAt (sourceRows layout f) x)) k 0 → other ≡ node → o ≡ 2 * n + 6 * x + 2 * k → r ≡ u16At u o → r ≡ lastUser (sourceRows layout f) node x
     entry-is other o r l e p q w =
-        let at : o ≡ 2 * length (netlistOf f) + 6 * x + 2 * k = omega (arith, F .file .count) in
-        w ∙ ap (u16At u) at ∙ L .entries x k h (omega arith) ∙ ap (λ (z : ℕ). lastUser (netlistOf f) z x) (sym e ∙ p)
+        let at : o ≡ 2 * length (sourceRows layout f) + 6 * x + 2 * k = omega (arith, F .count) in
+        w ∙ ap (u16At u) at ∙ L .entries x k h (omega arith) ∙ ap (λ (z : ℕ). lastUser (sourceRows layout f) z x) (sym e ∙ p)
 
     -- Some operand is the node.
-    pub user-has : (z : ℕ) → NotAmong (operandsOf (rowAt (netlistOf f) x)) k node → count ≤ k → uses (netlistOf f) x node ≡ true → z ≡ lastUser (netlistOf f) node x
+    pub user-has : (z : ℕ) → NotAmong (operandsOf (rowAt (sourceRows layout f) x)) k node → count ≤ k → uses (sourceRows layout f) x node ≡ true → z ≡ lastUser (sourceRows layout f) node x
     user-has z a l e =
-        let i = at-of node (operandsOf (rowAt (netlistOf f) x)) (in-is node (operandsOf (rowAt (netlistOf f) x)) e) in
+        let i = at-of node (operandsOf (rowAt (sourceRows layout f) x)) (in-is node (operandsOf (rowAt (sourceRows layout f) x)) e) in
         absurd (a (i .0) (omega (arith, i .1)) (i .2))

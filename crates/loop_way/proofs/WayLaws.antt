@@ -1,7 +1,7 @@
 -- A way is made row by row, until its last gate names a row that it has.
 -- Assumes nothing.
 use Prim.Native.Nat.{ℕ, _+_, _*_, _<_, _≤_}
-use mathlib.Core.Path.{_≡_, refl}
+use mathlib.Core.Path.{_≡_, refl, sym, ap, _∙_, subst}
 use mathlib.Core.List.{List}
 use native.Mathlib.Omega.{arith}
 use native.Mathlib.Decide.{decLt}
@@ -11,13 +11,14 @@ use Rattle.memory.proofs.SlotLaws.{slot-same, slot-other}
 use Rattle.netlist.specs.Limits.{sortWorkBytes}
 use Rattle.netlist.specs.Rows.{Row}
 use Rattle.netlist.specs.FileFormat.{netlistOf}
-use Rattle.netlist.specs.WellFormed.{UnorderedRows}
-use Rattle.blockfile.specs.Ready.{Ready}
 use Rattle.blockfile.specs.declared.count.Counts.{Counts}
 use Rattle.accept.specs.declared.Acceptance.{Acceptance}
 use Rattle.accept.specs.declared.Acceptance.the-variants.{Accepted}
-use Rattle.accept.specs.Refusals.{CheckedUnordered}
+use Rattle.accept.specs.Refusals.{acceptRefusal, CheckedUnordered}
 use Rattle.accept.proofs.RefusalLaws.{unordered-ready}
+use Rattle.gate_rows.specs.Sources.{sourceRows, Source}
+use Rattle.gate_rows.specs.declared.Layout.the-variants as layout
+use Rattle.gate_rows.proofs.SourceLaws.{file-is, file-source}
 use Rattle.gate_loops.specs.Walk.{Unsettled}
 use Rattle.loop_way.specs.Ways.{Names, Chain, IsWay, ClosedAt}
 
@@ -38,18 +39,18 @@ pub record Walking (rows : List Row) (list : List ℕ) (n row : ℕ) : Type 0 wh
   pub inside : row < length rows
   pub named : (x : ℕ) → x + 1 ≡ n → Names rows (slotAt list x) row
 
-pub walk-starts : (f list : List ℕ) (m row : ℕ) → Ready UnorderedRows f m → row < m → Walking (netlistOf f) list 0 row
-walk-starts f list m row R l = let c = R .file .count in record { chain = no-chain (netlistOf f) list; inside = omega arith; named = λ x k. absurd (omega arith) }
+pub walk-starts : (f list : List ℕ) (m row : ℕ) → Source layout.File f m → row < m → Walking (sourceRows layout.File f) list 0 row
+walk-starts f list m row R l = let c = R .count in record { chain = no-chain (sourceRows layout.File f) list; inside = omega arith; named = λ x k. absurd (omega arith) }
 
 -- The row is put in slot n.
-module _ {f list list′ : List ℕ} {m n row : ℕ} (R : Ready UnorderedRows f m) (W : Walking (netlistOf f) list n row) (put : list′ ≡ setSlot list n row) (room : 2 * m ≤ length list) (less : n < m) where
+module _ {f list list′ : List ℕ} {m n row : ℕ} (R : Source layout.File f m) (W : Walking (sourceRows layout.File f) list n row) (put : list′ ≡ setSlot list n row) (room : 2 * m ≤ length list) (less : n < m) where
   put-here : slotAt list′ n ≡ row
-  put-here = let c = R .file .count in let few = R .file .few in let i = W .inside in rw put (slot-same list n row (omega arith) (omega arith))
+  put-here = let c = R .count in let few = R .few in let i = W .inside in rw put (slot-same list n row (omega arith) (omega arith))
 
   put-before : (x : ℕ) → x < n → slotAt list′ x ≡ slotAt list x
   put-before x l = rw put (slot-other list n row x (λ e. omega arith))
 
-  put-chain : Chain (netlistOf f) list′ (n + 1)
+  put-chain : Chain (sourceRows layout.File f) list′ (n + 1)
   put-chain = record {
     inside = λ x l. elim (decLt x n) [
       | yes k ↦ rw (put-before x k) (W .chain .inside x k)
@@ -61,20 +62,28 @@ module _ {f list list′ : List ℕ} {m n row : ℕ} (R : Ready UnorderedRows f 
     ];
   }
 
-  module _ {w : List ℕ} {next : ℕ} (U : Unsettled (netlistOf f) w row next) (some : ¬ (next ≡ 0)) where
-    names-next : (x : ℕ) → x + 1 ≡ n + 1 → Names (netlistOf f) (slotAt list′ x) next
+  module _ {w : List ℕ} {next : ℕ} (U : Unsettled (sourceRows layout.File f) w row next) (some : ¬ (next ≡ 0)) where
+    names-next : (x : ℕ) → x + 1 ≡ n + 1 → Names (sourceRows layout.File f) (slotAt list′ x) next
     names-next x e = let q : x ≡ n = omega arith in rw q (rw put-here (U .some some .0))
 
-    pub walks-on : Walking (netlistOf f) list′ (n + 1) next
+    pub walks-on : Walking (sourceRows layout.File f) list′ (n + 1) next
     walks-on = record { chain = put-chain; inside = U .inside; named = names-next }
 
-    pub way-closed : (count start : ℕ) → ClosedAt list′ (n + 1) next count start → IsWay (netlistOf f) list′ count start
+    pub way-closed : (count start : ℕ) → ClosedAt list′ (n + 1) next count start → IsWay (sourceRows layout.File f) list′ count start
     way-closed count start C = elim (decLt 0 count) [
-      | no k ↦ no-way (netlistOf f) list′ count start (omega arith)
+      | no k ↦ no-way (sourceRows layout.File f) list′ count start (omega arith)
       | yes k ↦ (let e = C .all k in
           rw e (record { chain = put-chain; early = λ _. C .early k; closed = λ x l. rw (C .has k) (names-next x l) }))
     ]
 
--- A list as long as Sort's work has a slot for each row of an accepted file.
-pub slots-enough : (file list : List ℕ) (a : Acceptance) → CheckedUnordered file a → (n : ℕ) (c : Counts) → a ≡ Accepted n c → sortWorkBytes ≤ length list → 2 * n ≤ length list
-slots-enough file list a A n c e room = let few = unordered-ready file a A n c e .file .few in omega arith
+-- The rows of a file are its netlist.
+pub way-in-file : (f list : List ℕ) (n start : ℕ) → IsWay (sourceRows layout.File f) list n start → IsWay (netlistOf f) list n start
+way-in-file f list n start W = subst (λ (rows : List Row). IsWay rows list n start) (file-is f) W
+
+-- An accepted file is a source, and a list as long as Sort's work has a slot for each of its rows.
+module _ (file : List ℕ) (a : Acceptance) (A : CheckedUnordered file a) (n : ℕ) (c : Counts) (e : a ≡ Accepted n c) where
+  pub accepted-source : Source layout.File file n
+  accepted-source = file-source file n (unordered-ready file a A n c e) (sym (A .refusal) ∙ ap acceptRefusal e)
+
+  pub slots-enough : (list : List ℕ) → sortWorkBytes ≤ length list → 2 * n ≤ length list
+  slots-enough list room = let few = accepted-source .few in omega arith

@@ -4,10 +4,11 @@ ghost use Prim.Native.Nat.{_*_, _<_, _≤_};
 ghost use lib.ListN.{length};
 ghost use Rattle.memory.specs.Slots.{slotAt};
 ghost use Rattle.netlist.specs.FileFormat.{netlistOf};
-ghost use Rattle.netlist.specs.WellFormed.{UnorderedRows};
-ghost use Rattle.blockfile.specs.Ready.{Ready};
+ghost use Rattle.gate_rows.specs.Sources.{sourceRows, Source};
+ghost use Rattle.gate_rows.specs.declared.Layout.the-variants.{File};
 ghost use Rattle.loop_way.specs.Ways.{ClosedAt, IsWay};
 use accept::Acceptance;
+use gate_rows::Layout;
 use netlist::SORT_WORK_BYTES;
 
 // How many gates the way has, and which of them the last one names, counted from 0: there the loop starts. Both are 0 if there is no way.
@@ -55,16 +56,16 @@ fn close(list: &[u8], count: usize, row: usize) -> Way
 
 // From gate to gate, as the walk went that left these slots: an open row has 1 + the row that led to it.
 fn follow(file: &[u8], slots: &[u8], rows: usize, first: usize, list: &mut [u8]) -> Way
-    requires { ⌜ Ready UnorderedRows (now file) rows × (first < rows) ⌝ }
+    requires { ⌜ Source File (now file) rows × (first < rows) ⌝ }
     requires { ⌜ (2 * rows ≤ length (now slots)) × (2 * rows ≤ length (now list)) ⌝ }
-    ensures { λ r. ⌜ IsWay (netlistOf (now (file .entry))) (now (list .exit)) (r .count) (r .start) ⌝ }
+    ensures { λ r. ⌜ IsWay (sourceRows File (now (file .entry))) (now (list .exit)) (r .count) (r .start) ⌝ }
 {
     let mut row = first;
     let mut count = 0;
     'walk: while count < rows {
         memory::set_slot(&mut *list, count, row);
         count += 1;
-        let next = gate_loops::unsettled_operand(file, slots, rows, row);
+        let next = gate_loops::unsettled_operand(file, Layout::File, slots, rows, row);
         if next == 0 {
             return no_way();
         }
@@ -79,11 +80,11 @@ fn follow(file: &[u8], slots: &[u8], rows: usize, first: usize, list: &mut [u8])
 
 // The way in a file of this many rows.
 fn find_in(file: &[u8], rows: usize, list: &mut [u8]) -> Way
-    requires { ⌜ Ready UnorderedRows (now file) rows × (2 * rows ≤ length (now list)) ⌝ }
-    ensures { λ r. ⌜ IsWay (netlistOf (now (file .entry))) (now (list .exit)) (r .count) (r .start) ⌝ }
+    requires { ⌜ Source File (now file) rows × (2 * rows ≤ length (now list)) ⌝ }
+    ensures { λ r. ⌜ IsWay (sourceRows File (now (file .entry))) (now (list .exit)) (r .count) (r .start) ⌝ }
 {
     let mut slots = [0u8; SORT_WORK_BYTES];
-    let first = gate_loops::find_loop(file, &mut slots, rows);
+    let first = gate_loops::find_loop(file, Layout::File, &mut slots, rows);
     if first < rows {
         follow(file, &slots, rows, first, list)
     } else {

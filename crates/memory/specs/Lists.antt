@@ -1,5 +1,5 @@
 -- Tests, tables and searches over a run of numbers, and counts.
--- Interface: allBelow, joinBelow, tabulate, firstFrom, countIf, Among.
+-- Interface: allBelow, allOf, joinBelow, tabulate, firstFrom, countIf, Among.
 -- Assumes nothing.
 use Prim.Native.Nat.{ℕ, zero, suc, _+_}
 use mathlib.Core.Bool.{Bool, true, false, cond, _&&_}
@@ -9,6 +9,11 @@ use mathlib.Core.List.{List, [], _∷_, _++_}
 abbrev pub allBelow : ℕ → (ℕ → Bool) → Bool
 allBelow zero f = true
 allBelow (suc n) f = allBelow n f && f n
+
+-- f holds of each element.
+abbrev pub allOf {ℓ} : {A : Type ℓ} → (A → Bool) → List A → Bool
+allOf f [] = true
+allOf f (x ∷ xs) = f x && allOf f xs
 
 -- The lists f 0, f 1, .., f (n - 1), joined.
 abbrev pub joinBelow {ℓ} : {A : Type ℓ} → ℕ → (ℕ → List A) → List A

@@ -13,8 +13,8 @@ use lib.Seq.{getD-append-add}
 use Rattle.memory.proofs.TestLaws.{and-true, last-or}
 use Rattle.memory.specs.Lists.{joinBelow}
 use Rattle.memory.proofs.ListLaws.{first-is, first-least}
-use Rattle.netlist.specs.Rows.{Row, constant, input, register, andGate, xorGate, muxGate, output, encodeRow, decodeRow, rowAt, kindOf, nameOf, labelOf, phaseOf, hasName, isNamed, isOutput, isUnknown, firstRow, HasRow, rowFromFields, mapLiterals}
-use Rattle.netlist.specs.WellFormed.{EachRow, NextBelow, ResetIn, SameName, WellFormed, FoldableRows}
+use Rattle.netlist.specs.Rows.{Row, constant, input, register, andGate, xorGate, muxGate, output, encodeRow, decodeRow, rowAt, kindOf, nameOf, labelOf, phaseOf, hasName, isNamed, isOutput, isUnknown, firstRow, rowNamed, HasRow, rowFromFields, mapLiterals}
+use Rattle.netlist.specs.WellFormed.{EachRow, NextBelow, ResetIn, SameName, NamesUnique, WellFormed, FoldableRows}
 
 -- ---- fields
 
@@ -136,6 +136,14 @@ module _ (f : Row → Bool) (rows : List Row) where
 
   pub has-of : (x : ℕ) → x < length rows → f (rowAt rows x) ≡ true → HasRow f rows
   has-of x h e = lt-ltb (firstRow f rows) (length rows) (omega (arith, first-least 0 (length rows) (λ i. f (rowAt rows i)) x (omega arith) e))
+
+-- Where names are unique, row i is the one of its name.
+module _ (rows : List Row) (unique : NamesUnique rows) (i : ℕ) (h : i < length rows) where
+  pub named-place : (k l p : ℕ) → hasName (rowAt rows i) ≡ true → kindOf (rowAt rows i) ≡ k → labelOf (rowAt rows i) ≡ l → phaseOf (rowAt rows i) ≡ p → rowNamed k l p rows ≡ i
+  named-place k l p t a b c =
+      let f = has-at (isNamed k l p) rows (has-of (isNamed k l p) rows i h (named-of k l p (rowAt rows i) a b c)) in
+      let n = named-is k l p (rowAt rows (rowNamed k l p rows)) (f .1) in
+      sym (unique i (rowNamed k l p rows) h (f .0) t (record { kind = a ∙ sym (n .0); label = b ∙ sym (n .1); phase = c ∙ sym (n .2) }))
 
 -- ---- lists of rows
 

@@ -51,3 +51,10 @@ runWorkBytes = 16384
 -- Question 23: Sort's work.
 abbrev pub sortWorkBytes : ℕ
 sortWorkBytes = 16384
+
+-- Question 23: what Import is lent.
+abbrev pub importResultBytes : ℕ
+importResultBytes = 65536
+
+abbrev pub importWorkBytes : ℕ
+importWorkBytes = 49152

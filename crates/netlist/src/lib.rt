@@ -32,3 +32,8 @@ pub const RUN_WORK_BYTES: usize = 16384;
 
 // Sort's work.
 pub const SORT_WORK_BYTES: usize = 16384;
+
+// What Import is lent.
+pub const IMPORT_RESULT_BYTES: usize = 65536;
+
+pub const IMPORT_WORK_BYTES: usize = 49152;

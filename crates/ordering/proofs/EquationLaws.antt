@@ -11,7 +11,7 @@ use lib.Dec.{eqb}
 use Rattle.memory.specs.Lists.{Among, here, there}
 use Rattle.netlist.specs.Rows.{Row, constant, input, register, andGate, xorGate, muxGate, output, rowAt, kindOf, isRegister, isUnknown, isOutput, labelOf, hasName, isNamed, firstRow, rowNamed, HasRow, mapLiterals, faninNodes}
 use Rattle.netlist.specs.Simulation.{boolLogic, literalValue, rowValue, resetValue, nextValue, valueAt, runState, runValue, RunValues}
-use Rattle.netlist.proofs.RowLaws.{named-is, named-register, has-at, has-of, map-alike}
+use Rattle.netlist.proofs.RowLaws.{named-is, named-register, named-place, has-at, has-of, map-alike}
 use Rattle.netlist.specs.WellFormed.{NamesNode, OnLiterals, NamesUnique}
 use Rattle.netlist.proofs.SimulationLaws.{literal-cong, held, state-at, value-at}
 use Rattle.ordering.specs.GateOrder.{isSource, gateOrder, sortedOrder, newNumber, renumberBy, sortedNetlist, Grounded, grounded, IsGateOrder}
@@ -191,10 +191,9 @@ module _ (rows : List Row) (literals : (i : ℕ) → i < length rows → OnLiter
         let x = has-at (isNamed k l p) rows h in
         let y = has-at (isNamed k l p) sorted (has-same (isNamed k l p) (keeps-name k l p) .0 h) in
         let i = sorted-from rows O (rowNamed k l p sorted) (y .0) in
-        let a = named-is k l p (rowAt rows (rowNamed k l p rows)) (x .1) in
         let b = named-is k l p (rowAt rows (i .0)) (sym (keeps-name k l p _ (rowAt rows (i .0))) ∙ ap (isNamed k l p) (sym (sorted-at rows O (i .0) (i .1))) ∙ ap (λ (z : ℕ). isNamed k l p (rowAt sorted z)) (i .2) ∙ y .1) in
-        let e : i .0 ≡ rowNamed k l p rows = unique (i .0) (rowNamed k l p rows) (i .1) (x .0) (named (rowAt rows (i .0)) (b .0)) (record { kind = b .0 ∙ sym (a .0); label = b .1 ∙ sym (a .1); phase = b .2 ∙ sym (a .2) }) in
-        (x .0, sym (i .2) ∙ ap N e)
+        let e : rowNamed k l p rows ≡ i .0 = named-place rows unique (i .0) (i .1) k l p (named (rowAt rows (i .0)) (b .0)) (b .0) (b .1) (b .2) in
+        (x .0, sym (i .2) ∙ ap N (sym e))
 
     -- A register's value in a step is what it holds.
     register-value : (run : RunValues) (t y : ℕ) (s n l : ℕ) → y < length sorted → rowAt sorted y ≡ register s n l → valueAt boolLogic (runState boolLogic sorted (run .choices) (run .inputs) t) y ≡ runValue boolLogic sorted (run .choices) (run .inputs) t y

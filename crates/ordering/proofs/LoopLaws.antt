@@ -3,8 +3,9 @@
 use Prim.Native.Nat.{ℕ, _<_}
 use mathlib.Core.Path.{_≡_, refl, sym, ap, _∙_}
 use mathlib.Core.Bool.{Bool, true, false, cond, not, _&&_, false≢true}
-use mathlib.Core.List.{List}
+use mathlib.Core.List.{List, [], _∷_}
 use native.Mathlib.Omega.{arith}
+use native.Mathlib.Decide.{decLt}
 use lib.ListN.{length}
 use lib.Dec.{ltb}
 use borrow.Author.Tests.{ltb-true, ltb-false, lt-ltb, le-ltb}
@@ -12,8 +13,8 @@ use Rattle.memory.specs.Lists.{firstFrom}
 use Rattle.memory.proofs.TestLaws.{fails}
 use Rattle.memory.proofs.ListLaws.{first-is, first-found}
 use Rattle.netlist.specs.Rows.{Row, rowAt}
-use Rattle.questions.specs.Questions.{Refusal, noRefusal}
-use Rattle.questions.proofs.QuestionLaws.{number-none, items-none, items-yes}
+use Rattle.questions.specs.Questions.{Refusal, noRefusal, firstRefusal}
+use Rattle.questions.proofs.QuestionLaws.{list-next, list-stop, number-none, items-none, items-yes}
 use Rattle.ordering.specs.GateOrder.{isGate, isIn, gateOrder, Grounded}
 use Rattle.ordering.specs.SortQuestions.{loopQuestion, loopRefusal}
 use Rattle.ordering.specs.SortGuarantee.{LoopWords}
@@ -107,3 +108,10 @@ module _ (rows : List Row) where
     number = number-is;
     place = λ i l. (place-to i l, place-of i l);
   }
+
+-- 22 asked last: with number 0 it has place 0.
+pub loop-last : (rows : List Row) → firstRefusal (loopRefusal rows ∷ []) ≡ loopRefusal rows
+loop-last rows = elim (decLt 0 (loopRefusal rows .number)) [
+  | yes l ↦ list-stop (loopRefusal rows) [] l
+  | no l ↦ (let e : loopRefusal rows .number ≡ 0 = omega arith in list-next (loopRefusal rows) [] e ∙ sym (all-passes rows (passes-zero rows e)))
+]

@@ -13,9 +13,9 @@ use lib.Dec.{eqb, ltb}
 use borrow.Author.Tests.{eqb-true, eq-eqb, ltb-true, ltb-false, not-true}
 use Rattle.memory.proofs.TestLaws.{or-case, and-true, not-both, fails, passes, last-or}
 use Rattle.memory.proofs.ListLaws.{first-is}
-use Rattle.memory.specs.Lists.{Among, here, there}
+use Rattle.memory.specs.Lists.{allOf, Among, here, there}
 use Rattle.netlist.specs.Rows.{Row, constant, rowAt, faninNodes}
-use Rattle.ordering.specs.GateOrder.{isGate, isIn, allOf, isReady, lowestReady, placedGates, gateOrder, Grounded, grounded, IsGateOrder}
+use Rattle.ordering.specs.GateOrder.{isGate, isIn, isReady, lowestReady, placedGates, gateOrder, Grounded, grounded, IsGateOrder}
 
 -- ---- lists
 

@@ -30,7 +30,7 @@ use Rattle.ordering.proofs.InOrder.{order-kept}
 pub sortMemoryRight-iff : (file : List ℕ) (result work : ℕ) → (sortMemoryRight file result work ≡ true) ↔ SortRoom file result work
 sortMemoryRight-iff file result work = and-iff _ _ (leb-iff (length file) result) (leb-iff sortWorkBytes work)
 
-loop-means : (rows : List Row) (i : ℕ) → ItemMeans (loopQuestion rows i) i (ask 22 i (LoopFree rows i) ∷ [])
+pub loop-means : (rows : List Row) (i : ℕ) → ItemMeans (loopQuestion rows i) i (ask 22 i (LoopFree rows i) ∷ [])
 loop-means rows i = record {
   refused = λ h. let q = question-fails rows i h in inl (sym (q .0), refl, λ free. false≢true (sym (q .1 .1) ∙ grounded-in rows i (q .1 .0) (free (q .1 .0))));
   passed = λ h. (λ g. in-grounded rows i (question-zero rows i h g), tt);

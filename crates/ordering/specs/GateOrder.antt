@@ -8,7 +8,7 @@ use mathlib.Core.Bool.{Bool, true, false, cond, not, _&&_, _||_}
 use mathlib.Core.List.{List, [], _∷_, _++_, map}
 use lib.ListN.{length, getD}
 use lib.Dec.{eqb, ltb}
-use Rattle.memory.specs.Lists.{joinBelow, firstFrom, Among}
+use Rattle.memory.specs.Lists.{allOf, joinBelow, firstFrom, Among}
 use Rattle.netlist.specs.Rows.{Row, rowAt, kindOf, isOutput, mapLiterals, faninNodes}
 
 -- A gate is an AND, an XOR or a MUX. The other nodes, constant, inputs and registers, are sources.
@@ -26,11 +26,6 @@ operandsOf r = cond (isGate r) (faninNodes r) []
 abbrev pub isIn : ℕ → List ℕ → Bool
 isIn i [] = false
 isIn i (j ∷ js) = eqb i j || isIn i js
-
--- The test holds of each number of the list.
-abbrev pub allOf : (ℕ → Bool) → List ℕ → Bool
-allOf f [] = true
-allOf f (j ∷ js) = f j && allOf f js
 
 module _ (rows : List Row) where
   -- The gate in row i is not placed, and each gate that it names is: `placed` has the rows of the gates placed so far.

@@ -1,7 +1,7 @@
 -- Where a row's value stands: its place among the rows of its sort, found by name or by counting; and the outputs after all nodes.
 -- Assumes nothing.
 use Prim.Native.Nat.{ℕ, zero, suc, _+_, _<_, _≤_}
-use mathlib.Core.Path.{_≡_, refl, sym, ap, _∙_}
+use mathlib.Core.Path.{_≡_, refl, ap}
 use mathlib.Core.Bool.{Bool, true, false, cond, not}
 use mathlib.Core.List.{List, [], _∷_}
 use native.Mathlib.Omega.{arith}
@@ -9,24 +9,18 @@ use lib.ListN.{length, getD}
 use borrow.Author.Tests.{not-true}
 use Rattle.memory.specs.Lists.{countIf}
 use Rattle.memory.proofs.TestLaws.{passes, fails}
-use Rattle.netlist.specs.Rows.{Row, constant, input, register, rowAt, kindOf, labelOf, phaseOf, hasName, isNamed, isOutput, rowNamed}
-use Rattle.netlist.proofs.RowLaws.{named-is, named-of, has-at, has-of}
+use Rattle.netlist.specs.Rows.{Row, constant, input, register, rowAt, kindOf, labelOf, phaseOf, hasName, isOutput, rowNamed}
+use Rattle.netlist.proofs.RowLaws.{named-place}
 use Rattle.netlist.specs.WellFormed.{NamesUnique}
 
 -- ---- a row found by its name
 
 module _ (rows : List Row) (unique : NamesUnique rows) (i : ℕ) (h : i < length rows) where
-  named-place : (k l p : ℕ) → hasName (rowAt rows i) ≡ true → kindOf (rowAt rows i) ≡ k → labelOf (rowAt rows i) ≡ l → phaseOf (rowAt rows i) ≡ p → rowNamed k l p rows ≡ i
-  named-place k l p t a b c =
-      let f = has-at (isNamed k l p) rows (has-of (isNamed k l p) rows i h (named-of k l p (rowAt rows i) a b c)) in
-      let n = named-is k l p (rowAt rows (rowNamed k l p rows)) (f .1) in
-      sym (unique i (rowNamed k l p rows) h (f .0) t (record { kind = a ∙ sym (n .0); label = b ∙ sym (n .1); phase = c ∙ sym (n .2) }))
-
   pub input-place : (l p : ℕ) → rowAt rows i ≡ input l p → rowNamed 1 l p rows ≡ i
-  input-place l p e = named-place 1 l p (ap hasName e) (ap kindOf e) (ap labelOf e) (ap phaseOf e)
+  input-place l p e = named-place rows unique i h 1 l p (ap hasName e) (ap kindOf e) (ap labelOf e) (ap phaseOf e)
 
   pub register-place : (r n l : ℕ) → rowAt rows i ≡ register r n l → rowNamed 2 l 0 rows ≡ i
-  register-place r n l e = named-place 2 l 0 (ap hasName e) (ap kindOf e) (ap labelOf e) (ap phaseOf e)
+  register-place r n l e = named-place rows unique i h 2 l 0 (ap hasName e) (ap kindOf e) (ap labelOf e) (ap phaseOf e)
 
 -- ---- elements of one sort before all others
 

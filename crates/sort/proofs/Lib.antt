@@ -1,3 +1,2 @@
--- Rows written at their new places, and the outcome of Sort.
-pub mod WriteLaws
+-- The outcome of Sort.
 pub mod OutcomeLaws

@@ -1,66 +1,57 @@
 -- The outcome of Sort, from its parts: the questions that it plans by, the loop that it looks for, and the rows that it writes.
 -- Assumes nothing.
-use Prim.Native.Nat.{ℕ, _+_, _-_, _*_, _<_, _≤_, _/_}
+use Prim.Native.Nat.{ℕ, _*_, _<_, _≤_}
 use mathlib.Core.Path.{_≡_, sym, ap, _∙_, subst}
 use mathlib.Core.Bool.{Bool, true, false, _&&_}
-use mathlib.Core.List.{List, [], _∷_, _++_}
+use mathlib.Core.List.{List, [], _∷_}
 use native.Mathlib.Omega.{arith}
-use native.Mathlib.Decide.{decLt}
 use lib.ListN.{length, replicate}
 use lib.Seq.{take-at}
-use lib.Dec.{eqb, ltb, leb}
-use borrow.Author.Tests.{lt-ltb, le-ltb, ltb-true, ne-eqb}
-use Rattle.memory.specs.Lists.{firstFrom}
+use lib.Dec.{eqb, leb}
+use borrow.Author.Tests.{ne-eqb}
 use Rattle.memory.specs.Fields.{IsBytes}
-use Rattle.memory.proofs.ListLaws.{first-is}
 use Rattle.netlist.specs.Limits.{sortWorkBytes}
 use Rattle.netlist.specs.Rows.{Row}
-use Rattle.netlist.specs.FileFormat.{fieldsOf, netlistOf, blocksFor, fileOf, fileIn, fileLeft}
+use Rattle.netlist.specs.FileFormat.{netlistOf, blocksFor, fileOf, fileIn, fileLeft}
 use Rattle.netlist.specs.WellFormed.{UnorderedRows}
-use Rattle.netlist.proofs.FileLaws.{file-length, read-at, read-length}
+use Rattle.netlist.proofs.FileLaws.{file-length}
 use Rattle.questions.specs.Questions.{Refusal, noRefusal, unlessRefused, firstRefusal, question, namesAnywhere, unorderedRefusal}
 use Rattle.questions.proofs.QuestionLaws.{list-next, list-stop, list-yes, list-no, number-none, same-number, first-before, first-behind}
-use Rattle.questions.proofs.AcceptedFiles.{file-right, file-rows, rows-fields, rows-of-file}
+use Rattle.questions.proofs.AcceptedFiles.{file-right, rows-of-file}
 use Rattle.ordering.specs.GateOrder.{sortedNetlist}
-use Rattle.ordering.specs.SortQuestions.{loopQuestion, loopRefusal, sortMemoryRight, sortRefusal}
+use Rattle.ordering.specs.SortQuestions.{loopRefusal, sortMemoryRight, sortRefusal}
 use Rattle.ordering.specs.SortGuarantee.{SortGuarantee}
-use Rattle.ordering.proofs.PlacingLaws.{order-is}
-use Rattle.ordering.proofs.LoopLaws.{question-fails, passes-zero, passes-all, all-passes}
-use Rattle.ordering.proofs.InOrder.{sorted-rows}
+use Rattle.ordering.proofs.LoopLaws.{loop-last}
 use Rattle.ordering.proofs.SortPromise.{sort-guarantee}
 use Rattle.ordering.proofs.SortRefusalMeaning.{sortMemoryRight-iff}
 use Rattle.blockfile.specs.Ready.{Ready}
-use Rattle.blockfile.specs.RowsStand.{RowsStand}
 use Rattle.blockfile.specs.declared.count.Counts.{Counts}
+use Rattle.gate_rows.specs.Sources.{sourceRows, Source}
+use Rattle.gate_rows.specs.declared.Layout.the-variants as layout
+use Rattle.row_sorter.specs.Placing.{RowsSorted}
+use Rattle.gate_rows.proofs.SourceLaws.{file-is, file-source}
 use Rattle.accept.specs.Refusals.{refusalIn, acceptRefusal, CheckedUnordered}
 use Rattle.accept.specs.declared.FileRefusal.{FileRefusal}
 use Rattle.accept.specs.declared.Acceptance.{Acceptance}
 use Rattle.accept.specs.declared.Acceptance.the-variants as accept
 use Rattle.accept.proofs.RefusalLaws.{number-positive, unordered-ready}
 use Rattle.sort.specs.SortAnswers.{sortRefusalIn, sortingRefusal, rowsIn}
-use Rattle.sort.specs.SortParts.{Sortable, planAsked, planRefusal, SortPlanned, RowsSorted}
+use Rattle.sort.specs.SortParts.{Sortable, planAsked, planRefusal, SortPlanned}
 use Rattle.sort.specs.SortOutcome.{LeftSorted, Sorted}
 use Rattle.sort.specs.declared.SortRefusal.{SortRefusal}
 use Rattle.sort.specs.declared.SortRefusal.the-variants.{File, Memory, Loop}
 use Rattle.sort.specs.declared.SortPlan.{SortPlan}
 use Rattle.sort.specs.declared.SortPlan.the-variants.{Go, Stop}
 use Rattle.sort.specs.declared.Sorting.{Sorting}
-use Rattle.sort.specs.declared.Sorting.the-variants.{Done, Refused}
+use Rattle.sort.specs.declared.Sorting.the-variants.{Refused}
 
 -- ---- 1 to 10 and 23
 
 sortable-of : (file : List ℕ) (n : ℕ) → Ready UnorderedRows file n → unorderedRefusal file ≡ noRefusal → n ≡ length (netlistOf file) → Sortable file n
-unfolding netlistOf
 sortable-of file n ready e q =
     let F = file-right namesAnywhere file (number-none (unorderedRefusal file) e) in
     let R = rows-of-file namesAnywhere file F in
-    record {
-      ready = ready;
-      fields = λ i l.
-          let h : i < length (netlistOf file) = omega (arith, l, q) in
-          rows-fields namesAnywhere (fieldsOf file) (file-rows namesAnywhere file F) i h ∙ read-at file i (omega (arith, h, read-length file));
-      size = omega (arith, F .size .whole, R .2, q);
-    }
+    record { source = file-source file n ready e; size = omega (arith, F .size .whole, R .2, q) }
 
 module _ (file : List ℕ) (result work : ℕ) (a : Acceptance) (C : CheckedUnordered file a) where
   pub plan-file : (r : FileRefusal) → a ≡ accept.Refused r → SortPlanned file result work (Stop (File r))
@@ -103,63 +94,12 @@ module _ (file : List ℕ) (result work : ℕ) (plan : SortPlan) (P : SortPlanne
 
 -- ---- 22, and the rows
 
-module _ (file : List ℕ) (n : ℕ) (S : Sortable file n) where
-  abbrev R : List Row
-  R = netlistOf file
+pub sortable-source : (file : List ℕ) (n : ℕ) → Sortable file n → Source layout.File file n
+sortable-source file n S = S .source
 
-  count-is : n ≡ length R
-  count-is = S .ready .file .count
-
-  -- The first gate that is never placed, n if there is none.
-  module _ (first : ℕ) (f : first ≡ firstFrom 0 n (λ i. ltb 0 (loopQuestion R i))) where
-    found : firstFrom 0 (length R) (λ i. ltb 0 (loopQuestion R i)) ≡ first
-    found = ap (λ (k : ℕ). firstFrom 0 k (λ i. ltb 0 (loopQuestion R i))) (sym count-is) ∙ sym f
-
-    loop-found : first < n → loopRefusal R ≡ record { number = 22; place = first }
-    unfolding loopRefusal
-    loop-found l =
-        let h : first < length R = omega (arith, l, count-is) in
-        let F = first-is 0 (length R) (λ i. ltb 0 (loopQuestion R i)) in
-        let q = question-fails R first (ltb-true 0 (loopQuestion R first) (subst (λ (i : ℕ). ltb 0 (loopQuestion R i) ≡ true) found (F .holds (omega (arith, found, h))))) in
-        rw (found, lt-ltb first (length R) h, q .0)
-
-    pub loop-none : n ≤ first → loopRefusal R ≡ noRefusal
-    unfolding loopRefusal
-    loop-none h = rw (found, le-ltb first (length R) (omega (arith, h, count-is)))
-
-    pub rows-looped : (result : List ℕ) → first < n → RowsSorted R result result (Refused (Loop first))
-    rows-looped result l =
-        let e = loop-found l in
-        record { refusal = sym e; count = rw e; written = rw e }
-
-  pub users-room : (result : List ℕ) → length file ≤ length result → 8 * n ≤ length result
-  users-room result h = omega (arith, h, S .size)
-
-  pub marks-room : (work : List ℕ) → sortWorkBytes ≤ length work → 2 * n + (n + 63) / 64 ≤ length work
-  marks-room work h = omega (arith, h, S .ready .file .few)
-
-  pub slots-fit : (w₀ w : List ℕ) → sortWorkBytes ≤ length w₀ → length w ≡ length w₀ → 2 * n ≤ length w
-  slots-fit w₀ w h e = omega (arith, h, e, S .ready .file .few)
-
-  pub file-room : (result : List ℕ) → length file ≤ length result → 512 * blocksFor n ≤ length result
-  file-room result h = omega (arith, h, S .size)
-
-  module _ (passed : loopRefusal R ≡ noRefusal) where
-    size-is : length (sortedNetlist R) ≡ n
-    size-is = sorted-rows R (order-is R (passes-all R passed)) ∙ sym count-is
-
-    -- What is written over the rows in r, where they stand.
-    pub file-written : (result r r′ : List ℕ) → RowsStand (sortedNetlist R) r → ((rs : List Row) → length rs ≡ n → RowsStand rs r → r′ ≡ fileOf rs ++ replicate (length r - 512 * blocksFor n) 0) → length r ≡ length result
-        → r′ ≡ fileIn (sortedNetlist R) result
-    file-written result r r′ stands write long =
-        let bytes : length (fileOf (sortedNetlist R)) ≡ 512 * blocksFor n = file-length (sortedNetlist R) ∙ ap (λ (k : ℕ). 512 * blocksFor k) size-is in
-        let rest : length r - 512 * blocksFor n ≡ length result - length (fileOf (sortedNetlist R)) = omega (arith, long, bytes) in
-        write (sortedNetlist R) size-is stands ∙ ap (λ (k : ℕ). fileOf (sortedNetlist R) ++ replicate k 0) rest
-
-  pub rows-sorted : (result result′ : List ℕ) (first : ℕ) → first ≡ firstFrom 0 n (λ i. ltb 0 (loopQuestion R i)) → n ≤ first → result′ ≡ fileIn (sortedNetlist R) result → RowsSorted R result result′ (Done n)
-  rows-sorted result result′ first f h e =
-      let passed = loop-none first f h in
-      record { refusal = sym passed; count = rw passed count-is; written = rw passed e }
+-- What the sorter makes of the file's rows.
+pub file-sorted : (file : List ℕ) (result result′ : List ℕ) (q : Refusal) (m : ℕ) → RowsSorted (sourceRows layout.File file) result result′ q m → RowsSorted (netlistOf file) result result′ q m
+file-sorted file result result′ q m = subst (λ (rows : List Row). RowsSorted rows result result′ q m) (file-is file)
 
 -- ---- the outcome
 
@@ -168,13 +108,6 @@ sort-positive (File r) = number-positive r
 sort-positive Memory = omega arith
 sort-positive (Loop i) = omega arith
 
--- A refusal asked last: with number 0 it has place 0.
-last-one : (q : Refusal) → (q .number ≡ 0 → q ≡ noRefusal) → firstRefusal (q ∷ []) ≡ q
-last-one q h = elim (decLt 0 (q .number)) [ yes l ↦ list-stop q [] l | no l ↦ (let e : q .number ≡ 0 = omega arith in list-next q [] e ∙ sym (h e)) ]
-
-no-loop-place : (rows : List Row) → loopRefusal rows .number ≡ 0 → loopRefusal rows ≡ noRefusal
-no-loop-place rows h = all-passes rows (passes-zero rows h)
-
 module _ (file : List ℕ) (result work : ℕ) where
   plan-refuses : 0 < planAsked file result work .number → sortRefusal file result work ≡ planAsked file result work
   unfolding sortRefusal
@@ -182,7 +115,7 @@ module _ (file : List ℕ) (result work : ℕ) where
 
   plan-passes : planAsked file result work ≡ noRefusal → sortRefusal file result work ≡ loopRefusal (netlistOf file)
   unfolding sortRefusal
-  plan-passes h = first-behind (unorderedRefusal file ∷ question 23 (sortMemoryRight file result work) ∷ []) (loopRefusal (netlistOf file) ∷ []) (same-number h) ∙ last-one (loopRefusal (netlistOf file)) (no-loop-place (netlistOf file))
+  plan-passes h = first-behind (unorderedRefusal file ∷ question 23 (sortMemoryRight file result work) ∷ []) (loopRefusal (netlistOf file) ∷ []) (same-number h) ∙ loop-last (netlistOf file)
 
 module _ (file result work work′ : List ℕ) (plan : SortPlan) (P : SortPlanned file (length result) (length work) plan) where
   pub sort-stopped : (r : SortRefusal) → plan ≡ Stop r → work′ ≡ replicate (length work) 0 → Sorted file result result work work′ (Refused r)
@@ -200,7 +133,7 @@ module _ (file result work work′ : List ℕ) (plan : SortPlan) (P : SortPlanne
         left = λ z. absurd (refused z);
       }
 
-  module _ (n : ℕ) (result′ : List ℕ) (answer : Sorting) (e : plan ≡ Go n) (bytes : IsBytes file) (D : RowsSorted (netlistOf file) result result′ answer) where
+  module _ (n : ℕ) (result′ : List ℕ) (answer : Sorting) (e : plan ≡ Go n) (bytes : IsBytes file) (D : RowsSorted (netlistOf file) result result′ (sortingRefusal answer) (rowsIn answer)) where
     refusal-is : sortingRefusal answer ≡ sortRefusal file (length result) (length work)
     refusal-is = D .refusal ∙ sym (plan-passes file (length result) (length work) (sym (P .refusal) ∙ ap planRefusal e))
 

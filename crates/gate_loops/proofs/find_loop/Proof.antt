@@ -9,10 +9,10 @@ use Rattle.gate_loops.proofs.find_loop.Statement.{statement}
 use Rattle.gate_loops.proofs.find_loop.Tie as tie
 
 abbrev Inv-rows : tie.InvT-rows
-Inv-rows file slots₀ rows row₀ slots row = Searching file slots₀ slots rows row
+Inv-rows source layout slots₀ rows row₀ slots row = Searching layout source slots₀ slots rows row
 
 abbrev μ-rows : tie.MeasureT-rows
-μ-rows file slots₀ rows row₀ slots row = rows - row
+μ-rows source layout slots₀ rows row₀ slots row = rows - row
 
 rows-holds : tie.Need-rows-holds Inv-rows μ-rows
 rows-holds c = search search-starts

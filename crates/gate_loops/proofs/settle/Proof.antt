@@ -8,10 +8,10 @@ use Rattle.gate_loops.proofs.settle.Statement.{statement}
 use Rattle.gate_loops.proofs.settle.Tie as tie
 
 abbrev Inv-walk : tie.InvT-walk
-Inv-walk file slots₀ rows root row₀ slots row = Standing file slots₀ slots rows root row
+Inv-walk source layout slots₀ rows root row₀ slots row = Standing layout source slots₀ slots rows root row
 
 abbrev μ-walk : tie.MeasureT-walk
-μ-walk file slots₀ rows root row₀ slots row = unsettled slots rows
+μ-walk source layout slots₀ rows root row₀ slots row = unsettled slots rows
 
 walk-holds : tie.Need-walk-holds Inv-walk μ-walk
 walk-holds c = search walk-starts

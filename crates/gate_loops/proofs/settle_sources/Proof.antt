@@ -5,17 +5,17 @@ use mathlib.Core.Path.{_≡_}
 use native.Mathlib.Omega.{arith}
 use lib.ListN.{length}
 use borrow.Author.Needs.{needs}
-use Rattle.netlist.specs.FileFormat.{netlistOf}
+use Rattle.gate_rows.specs.Sources.{sourceRows}
 use Rattle.gate_rows.proofs.RowLaws.{rows-all, row-inside}
 use Rattle.gate_loops.proofs.RowLaws.{SetBelow, set-none, set-more, set-all}
 use Rattle.gate_loops.proofs.settle_sources.Statement.{statement}
 use Rattle.gate_loops.proofs.settle_sources.Tie as tie
 
 abbrev Inv-rows : tie.InvT-rows
-Inv-rows file slots₀ rows row₀ slots row = (row ≤ rows) × ((length slots ≡ length slots₀) × SetBelow (netlistOf file) slots row)
+Inv-rows source layout slots₀ rows row₀ slots row = (row ≤ rows) × ((length slots ≡ length slots₀) × SetBelow (sourceRows layout source) slots row)
 
 abbrev μ-rows : tie.MeasureT-rows
-μ-rows file slots₀ rows row₀ slots row = rows - row
+μ-rows source layout slots₀ rows row₀ slots row = rows - row
 
 rows-holds : tie.Need-rows-holds Inv-rows μ-rows
 rows-holds c = search (set-none, needs)
@@ -24,7 +24,7 @@ first-slot-requires : tie.Need-first-slot-requires Inv-rows μ-rows
 first-slot-requires c κs = search (rows-all, row-inside)
 
 rows-again : tie.Need-rows-again Inv-rows μ-rows
-rows-again c = search (set-more, needs)
+rows-again c = (search needs, (search needs, search set-more))
 
 returns : tie.Need-returns Inv-rows μ-rows
 returns c = search (set-all, needs)

@@ -3,17 +3,17 @@
 use Prim.Native.Nat.{_-_, _≤_}
 use native.Mathlib.Omega.{arith}
 use borrow.Author.Needs.{needs}
-use Rattle.netlist.specs.FileFormat.{netlistOf}
+use Rattle.gate_rows.specs.Sources.{sourceRows}
 use Rattle.gate_rows.proofs.RowLaws.{rows-all, row-inside}
 use Rattle.gate_loops.proofs.RowLaws.{node-room, node-unsettled, PassedBelow, passed-none, passed-more, all-passed}
 use Rattle.gate_loops.proofs.unsettled_operand.Statement.{statement}
 use Rattle.gate_loops.proofs.unsettled_operand.Tie as tie
 
 abbrev Inv-operands : tie.InvT-operands
-Inv-operands file slots rows row count index₀ index = (index ≤ count) × PassedBelow (netlistOf file) slots row index
+Inv-operands source layout slots rows row count index₀ index = (index ≤ count) × PassedBelow (sourceRows layout source) slots row index
 
 abbrev μ-operands : tie.MeasureT-operands
-μ-operands file slots rows row count index₀ index = count - index
+μ-operands source layout slots rows row count index₀ index = count - index
 
 operand-count-requires : tie.Need-operand-count-requires Inv-operands μ-operands
 operand-count-requires c κs = search (rows-all, row-inside)

@@ -5,7 +5,7 @@ use mathlib.Core.Path.{_≡_}
 use native.Mathlib.Omega.{arith}
 use lib.ListN.{length}
 use borrow.Author.Needs.{needs}
-use Rattle.netlist.specs.FileFormat.{netlistOf}
+use Rattle.gate_rows.specs.Sources.{sourceRows}
 use Rattle.ready_gates.specs.ReadySlots.{ReadyMarked}
 use Rattle.gate_numbers.specs.Numbers.{Woken}
 use Rattle.gate_numbers.proofs.WakingLaws.{marked-lowest}
@@ -14,10 +14,10 @@ use Rattle.gate_numbers.proofs.find_ready.Statement.{statement}
 use Rattle.gate_numbers.proofs.find_ready.Tie as tie
 
 abbrev Inv-rows : tie.InvT-rows
-Inv-rows file work₀ rows row₀ work row = (row ≤ rows) × ((length work ≡ length work₀) × (Woken (netlistOf file) (rowsBelow row) work₀ work × ReadyMarked rows work 0))
+Inv-rows source layout work₀ rows row₀ work row = (row ≤ rows) × ((length work ≡ length work₀) × (Woken (sourceRows layout source) (rowsBelow row) work₀ work × ReadyMarked rows work 0))
 
 abbrev μ-rows : tie.MeasureT-rows
-μ-rows file work₀ rows row₀ work row = rows - row
+μ-rows source layout work₀ rows row₀ work row = rows - row
 
 rows-holds : tie.Need-rows-holds Inv-rows μ-rows
 rows-holds c = (search needs, (search needs, (search found-none, search none-marked)))

@@ -3,16 +3,16 @@
 use Prim.Native.Nat.{_-_, _≤_}
 use native.Mathlib.Omega.{arith}
 use borrow.Author.Needs.{needs}
-use Rattle.netlist.specs.FileFormat.{netlistOf}
+use Rattle.gate_rows.specs.Sources.{sourceRows}
 use Rattle.gate_numbers.proofs.NumberLaws.{Numbering, numbering-none, numbering-fits, numbering-more, numbering-done, numbering-count}
 use Rattle.gate_numbers.proofs.number_kinds.Statement.{statement}
 use Rattle.gate_numbers.proofs.number_kinds.Tie as tie
 
 abbrev Inv-rows : tie.InvT-rows
-Inv-rows file slots₀ rows least most number next₀ row₀ slots next row = (row ≤ rows) × Numbering (netlistOf file) least most number slots₀ slots row next
+Inv-rows source layout slots₀ rows least most number next₀ row₀ slots next row = (row ≤ rows) × Numbering (sourceRows layout source) least most number slots₀ slots row next
 
 abbrev μ-rows : tie.MeasureT-rows
-μ-rows file slots₀ rows least most number next₀ row₀ slots next row = rows - row
+μ-rows source layout slots₀ rows least most number next₀ row₀ slots next row = rows - row
 
 rows-holds : tie.Need-rows-holds Inv-rows μ-rows
 rows-holds c = search (numbering-none, needs)

@@ -4,7 +4,7 @@ use Prim.Native.Nat.{_≤_}
 use mathlib.Core.Path.{_≡_}
 use lib.ListN.{length}
 use borrow.Author.Needs.{needs}
-use Rattle.netlist.specs.FileFormat.{netlistOf}
+use Rattle.gate_rows.specs.Sources.{sourceRows}
 use Rattle.ready_gates.specs.ReadySlots.{ReadyMarked}
 use Rattle.gate_numbers.specs.Numbers.{usersOf, Woken}
 use Rattle.gate_numbers.proofs.WakingLaws.{Asleep, usersAbove, NextUser, users-asleep, placed-marked, users-none, user-first, user-inside, user-uses, user-before, user-next, users-more, users-all}
@@ -12,12 +12,12 @@ use Rattle.gate_numbers.proofs.place_gate.Statement.{statement}
 use Rattle.gate_numbers.proofs.place_gate.Tie as tie
 
 abbrev Inv-users : tie.InvT-users
-Inv-users file users work₀ rows gate number slot low₀ user₀ work low user =
-    ((length work ≡ length work₀) × Asleep (netlistOf file) (usersOf (netlistOf file) gate) work₀)
-    × (Woken (netlistOf file) (usersAbove (netlistOf file) gate user) work₀ work × (NextUser (netlistOf file) gate user × (ReadyMarked rows work low × (low ≤ gate))))
+Inv-users source layout users work₀ rows gate number slot low₀ user₀ work low user =
+    ((length work ≡ length work₀) × Asleep (sourceRows layout source) (usersOf (sourceRows layout source) gate) work₀)
+    × (Woken (sourceRows layout source) (usersAbove (sourceRows layout source) gate user) work₀ work × (NextUser (sourceRows layout source) gate user × (ReadyMarked rows work low × (low ≤ gate))))
 
 abbrev μ-users : tie.MeasureT-users
-μ-users file users work₀ rows gate number slot low₀ user₀ work low user = user
+μ-users source layout users work₀ rows gate number slot low₀ user₀ work low user = user
 
 first-user-requires : tie.Need-first-user-requires Inv-users μ-users
 first-user-requires c κs = search needs

@@ -5,16 +5,16 @@ use mathlib.Core.Path.{_≡_}
 use native.Mathlib.Omega.{arith}
 use lib.ListN.{length}
 use borrow.Author.Needs.{needs}
-use Rattle.netlist.specs.FileFormat.{netlistOf}
+use Rattle.gate_rows.specs.Sources.{sourceRows}
 use Rattle.gate_numbers.proofs.RoundLaws.{Rounds, rounds-none, full-count, full-placed, none-count, none-placed, round-gate, round-fits, round-next}
 use Rattle.gate_numbers.proofs.place_gates.Statement.{statement}
 use Rattle.gate_numbers.proofs.place_gates.Tie as tie
 
 abbrev Inv-gates : tie.InvT-gates
-Inv-gates file users work₀ rows number next₀ low₀ work next low = (length work ≡ length work₀) × Rounds (netlistOf file) rows number next low work
+Inv-gates source layout users work₀ rows number next₀ low₀ work next low = (length work ≡ length work₀) × Rounds (sourceRows layout source) rows number next low work
 
 abbrev μ-gates : tie.MeasureT-gates
-μ-gates file users work₀ rows number next₀ low₀ work next low = rows - next
+μ-gates source layout users work₀ rows number next₀ low₀ work next low = rows - next
 
 gates-holds : tie.Need-gates-holds Inv-gates μ-gates
 gates-holds c = (search needs, search rounds-none)
@@ -23,7 +23,7 @@ lowest-ready-requires : tie.Need-lowest-ready-requires Inv-gates μ-gates
 lowest-ready-requires c κs = search needs
 
 returns : tie.Need-returns Inv-gates μ-gates
-returns c = (search none-count, search none-placed)
+returns c = record { passed = search needs; count = search none-count; placed = search none-placed }
 
 place-gate-requires : tie.Need-place-gate-requires Inv-gates μ-gates
 place-gate-requires c κs = ((search needs, search round-gate), (search needs, search round-fits))
@@ -32,7 +32,7 @@ gates-again : tie.Need-gates-again Inv-gates μ-gates
 gates-again c = (search needs, search round-next)
 
 returns-2 : tie.Need-returns-2 Inv-gates μ-gates
-returns-2 c = (search full-count, search full-placed)
+returns-2 c = record { passed = search needs; count = search full-count; placed = search full-placed }
 
 pub place-gates-spec : {M : Type 1} → statement M
 place-gates-spec =

@@ -1,6 +1,7 @@
--- `operand_at` meets its contract: the operand's field is read where the row stands.
+-- `operand_at` meets its contract: the operand's number is read where it stands.
 -- Assumes nothing.
 use borrow.Author.Needs.{needs}
+use Rattle.gate_rows.proofs.SourceLaws.{row-few}
 use Rattle.gate_rows.proofs.OperandLaws.{operand-inside, operand-is, half-small}
 use Rattle.gate_rows.proofs.operand_at.Statement.{statement}
 use Rattle.gate_rows.proofs.operand_at.Tie as tie
@@ -12,4 +13,4 @@ returns : tie.Need-returns
 returns c = search (operand-is, half-small, needs)
 
 pub operand-at-spec : {M : Type 1} → statement M
-operand-at-spec = tie.close (tie.spec (λ c κs. search needs) (λ c. search needs) (λ c. search needs) (λ c. search needs) field-at-requires returns)
+operand-at-spec = tie.close (tie.spec (λ c κs. search (row-few, needs)) field-at-requires returns)

@@ -1,12 +1,9 @@
--- `operand_count` meets its contract: the row's kind byte says how many operands it has.
+-- `operand_count` meets its contract: the row's kind says how many operands it has.
 -- Assumes nothing.
 use borrow.Author.Needs.{needs}
-use Rattle.gate_rows.proofs.OperandLaws.{kind-inside, operands-of, no-operands}
+use Rattle.gate_rows.proofs.OperandLaws.{operands-of, no-operands}
 use Rattle.gate_rows.proofs.operand_count.Statement.{statement}
 use Rattle.gate_rows.proofs.operand_count.Tie as tie
-
-shared-slice-read-kind : tie.Need-shared-slice-read-kind
-shared-slice-read-kind c = search kind-inside
 
 returns : tie.Need-returns
 returns c = search (operands-of 3, needs)
@@ -21,4 +18,4 @@ returns-4 : tie.Need-returns-4
 returns-4 c = search (no-operands, needs)
 
 pub operand-count-spec : {M : Type 1} → statement M
-operand-count-spec = tie.close (tie.spec (λ c κs. search needs) shared-slice-read-kind returns returns-2 returns-3 returns-4)
+operand-count-spec = tie.close (tie.spec (λ c κs. search needs) returns returns-2 returns-3 returns-4)

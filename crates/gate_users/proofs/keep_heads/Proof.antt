@@ -2,7 +2,7 @@
 -- Assumes nothing.
 use Prim.Native.Nat.{_-_, _≤_}
 use borrow.Author.Needs.{needs}
-use Rattle.netlist.specs.FileFormat.{netlistOf}
+use Rattle.gate_rows.specs.Sources.{sourceRows}
 use Rattle.gate_rows.proofs.RowLaws.{rows-all, row-inside}
 use Rattle.gate_users.specs.Users.{HeadsKept}
 use Rattle.gate_users.proofs.ListedLaws.{index-in, node-room, kept-start, keep-next, keep-end}
@@ -10,10 +10,10 @@ use Rattle.gate_users.proofs.keep_heads.Statement.{statement}
 use Rattle.gate_users.proofs.keep_heads.Tie as tie
 
 abbrev Inv-operands : tie.InvT-operands
-Inv-operands file users₀ rows row count index₀ users index = (index ≤ count) × HeadsKept (netlistOf file) row index users₀ users
+Inv-operands source layout users₀ rows row count index₀ users index = (index ≤ count) × HeadsKept (sourceRows layout source) row index users₀ users
 
 abbrev μ-operands : tie.MeasureT-operands
-μ-operands file users₀ rows row count index₀ users index = count - index
+μ-operands source layout users₀ rows row count index₀ users index = count - index
 
 operand-count-requires : tie.Need-operand-count-requires Inv-operands μ-operands
 operand-count-requires c κs = search (rows-all, row-inside)

@@ -4,18 +4,18 @@ use Prim.Native.Nat.{_-_, _*_, _≤_}
 use mathlib.Core.Path.{_≡_}
 use lib.ListN.{length}
 use borrow.Author.Needs.{needs}
-use Rattle.netlist.specs.FileFormat.{netlistOf}
+use Rattle.gate_rows.specs.Sources.{sourceRows}
 use Rattle.gate_users.specs.Users.{Listed}
 use Rattle.gate_users.proofs.ListedLaws.{part-long, cleared-room, cleared-same, cleared-listed, listed-all}
 use Rattle.gate_users.proofs.list_users.Statement.{statement}
 use Rattle.gate_users.proofs.list_users.Tie as tie
 
 abbrev Inv-rows : tie.InvT-rows
-Inv-rows file users₀ rows heads row₀ users row =
-    (row ≤ rows) × ((8 * rows ≤ length users) × ((length users ≡ length users₀) × Listed (netlistOf file) users row))
+Inv-rows source layout users₀ rows heads row₀ users row =
+    (row ≤ rows) × ((8 * rows ≤ length users) × ((length users ≡ length users₀) × Listed (sourceRows layout source) users row))
 
 abbrev μ-rows : tie.MeasureT-rows
-μ-rows file users₀ rows heads row₀ users row = rows - row
+μ-rows source layout users₀ rows heads row₀ users row = rows - row
 
 slice-aggregate-clear : tie.Need-slice-aggregate-clear Inv-rows μ-rows
 slice-aggregate-clear c = search part-long

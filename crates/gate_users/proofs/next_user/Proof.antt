@@ -3,7 +3,7 @@
 use Prim.Native.Nat.{_-_, _≤_}
 use borrow.Author.Needs.{needs}
 use Rattle.netlist.specs.Rows.{rowAt}
-use Rattle.netlist.specs.FileFormat.{netlistOf}
+use Rattle.gate_rows.specs.Sources.{sourceRows}
 use Rattle.ordering.specs.GateOrder.{operandsOf}
 use Rattle.gate_rows.proofs.RowLaws.{rows-all, row-inside}
 use Rattle.gate_users.proofs.ListedLaws.{index-in, NotAmong, among-none, among-more, entry-is, user-has}
@@ -11,10 +11,10 @@ use Rattle.gate_users.proofs.next_user.Statement.{statement}
 use Rattle.gate_users.proofs.next_user.Tie as tie
 
 abbrev Inv-operands : tie.InvT-operands
-Inv-operands file users rows user node count index₀ index = (index ≤ count) × NotAmong (operandsOf (rowAt (netlistOf file) user)) index node
+Inv-operands source layout users rows user node count index₀ index = (index ≤ count) × NotAmong (operandsOf (rowAt (sourceRows layout source) user)) index node
 
 abbrev μ-operands : tie.MeasureT-operands
-μ-operands file users rows user node count index₀ index = count - index
+μ-operands source layout users rows user node count index₀ index = count - index
 
 operand-count-requires : tie.Need-operand-count-requires Inv-operands μ-operands
 operand-count-requires c κs = search (rows-all, row-inside)

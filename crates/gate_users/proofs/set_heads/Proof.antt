@@ -4,7 +4,7 @@ use Prim.Native.Nat.{_-_, _≤_}
 use lib.ListN.{take}
 use borrow.Author.Needs.{needs}
 use Rattle.netlist.specs.Rows.{rowAt}
-use Rattle.netlist.specs.FileFormat.{netlistOf}
+use Rattle.gate_rows.specs.Sources.{sourceRows}
 use Rattle.ordering.specs.GateOrder.{operandsOf}
 use Rattle.gate_users.specs.Users.{HeadsSet}
 use Rattle.gate_users.proofs.ListedLaws.{index-in, node-room, set-start, set-next, set-end}
@@ -12,11 +12,11 @@ use Rattle.gate_users.proofs.set_heads.Statement.{statement}
 use Rattle.gate_users.proofs.set_heads.Tie as tie
 
 abbrev Inv-operands : tie.InvT-operands
-Inv-operands file users₀ row count index₀ users index =
-    (index ≤ count) × HeadsSet (netlistOf file) row (take index (operandsOf (rowAt (netlistOf file) row))) users₀ users
+Inv-operands source layout users₀ row count index₀ users index =
+    (index ≤ count) × HeadsSet (sourceRows layout source) row (take index (operandsOf (rowAt (sourceRows layout source) row))) users₀ users
 
 abbrev μ-operands : tie.MeasureT-operands
-μ-operands file users₀ row count index₀ users index = count - index
+μ-operands source layout users₀ row count index₀ users index = count - index
 
 operand-count-requires : tie.Need-operand-count-requires Inv-operands μ-operands
 operand-count-requires c κs = search needs

@@ -3,14 +3,15 @@
 use Prim.Native.Nat.{_-_, _*_, _≤_}
 use mathlib.Core.Path.{_≡_}
 use lib.ListN.{length}
-use Rattle.netlist.specs.FileFormat.{netlistOf}
+use Rattle.gate_rows.specs.Sources.{sourceRows}
+use Rattle.gate_rows.specs.declared.Layout.the-variants as layout
 use Rattle.loop_way.proofs.WayLaws.{no-way, Walking, walk-starts, walks-on, way-closed}
 use borrow.Author.Needs.{needs}
 use Rattle.loop_way.proofs.follow.Statement.{statement}
 use Rattle.loop_way.proofs.follow.Tie as tie
 
 abbrev Inv-walk : tie.InvT-walk
-Inv-walk file slots rows first list₀ row₀ count₀ list row count = (count ≤ rows) × (2 * rows ≤ length list) × (length list ≡ length list₀) × Walking (netlistOf file) list count row
+Inv-walk file slots rows first list₀ row₀ count₀ list row count = (count ≤ rows) × (2 * rows ≤ length list) × (length list ≡ length list₀) × Walking (sourceRows layout.File file) list count row
 
 abbrev μ-walk : tie.MeasureT-walk
 μ-walk file slots rows first list₀ row₀ count₀ list row count = rows - count

@@ -5,15 +5,16 @@ use mathlib.Core.Path.{_≡_}
 use native.Mathlib.Omega.{arith}
 use lib.ListN.{length}
 use borrow.Author.Needs.{needs}
-use Rattle.sort.proofs.WriteLaws.{Writing, writing-none, writing-next, writing-done}
-use Rattle.sort.proofs.place_rows.Statement.{statement}
-use Rattle.sort.proofs.place_rows.Tie as tie
+use Rattle.gate_rows.specs.Sources.{sourceRows}
+use Rattle.row_sorter.proofs.WriteLaws.{Writing, writing-none, writing-next, writing-done}
+use Rattle.row_sorter.proofs.place_rows.Statement.{statement}
+use Rattle.row_sorter.proofs.place_rows.Tie as tie
 
 abbrev Inv-rows : tie.InvT-rows
-Inv-rows file result₀ slots rows row₀ result row = (length result ≡ length result₀) × Writing file rows result row
+Inv-rows source layout result₀ slots rows row₀ result row = (length result ≡ length result₀) × Writing (sourceRows layout source) rows result row
 
 abbrev μ-rows : tie.MeasureT-rows
-μ-rows file result₀ slots rows row₀ result row = rows - row
+μ-rows source layout result₀ slots rows row₀ result row = rows - row
 
 rows-holds : tie.Need-rows-holds Inv-rows μ-rows
 rows-holds c = search (writing-none, needs)

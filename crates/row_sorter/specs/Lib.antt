@@ -1,0 +1,2 @@
+-- Rows that are placed.
+pub mod Placing
