@@ -1,6 +1,7 @@
-//! Binary AIGER: written from a netlist, read back, and run.
+//! AIGER: made from a netlist, written in binary or as text, read from binary, and run.
 
 use crate::netlist::Row;
+use std::io::Write;
 
 /// Inputs are variables 1 and up, then the latches, then the ANDs.
 pub struct Aiger {
@@ -81,6 +82,35 @@ pub fn write(aiger: &Aiger) -> Vec<u8> {
         push_number(&mut bytes, larger - smaller);
     }
     bytes
+}
+
+/// ASCII AIGER, where node n is variable `variables[n]`; every other reset of 0 is left out.
+pub fn write_text(aiger: &Aiger, variables: &[usize]) -> Vec<u8> {
+    let Aiger { inputs, latches, outputs, ands } = aiger;
+    let [l, o, a] = [latches.len(), outputs.len(), ands.len()];
+    let most = variables.iter().max().unwrap();
+    let literal = |literal: usize| 2 * variables[literal / 2] + literal % 2;
+    let mut text = format!("aag {most} {inputs} {l} {o} {a}\n").into_bytes();
+    let mut definitions = variables[1..].iter().map(|variable| 2 * variable);
+    for definition in definitions.by_ref().take(*inputs) {
+        writeln!(text, "{definition}").unwrap();
+    }
+    for ((at, &(next, reset)), latch) in latches.iter().enumerate().zip(definitions.by_ref()) {
+        write!(text, "{latch} {}", literal(next)).unwrap();
+        match reset {
+            0 if at % 2 == 0 => writeln!(text),
+            0 | 1 => writeln!(text, " {reset}"),
+            _ => writeln!(text, " {latch}"),
+        }
+        .unwrap();
+    }
+    for &output in outputs {
+        writeln!(text, "{}", literal(output)).unwrap();
+    }
+    for (&(a, b), gate) in ands.iter().zip(definitions) {
+        writeln!(text, "{gate} {} {}", literal(a), literal(b)).unwrap();
+    }
+    text
 }
 
 /// The numbers of the next line, after words that are none.

@@ -5,6 +5,7 @@ use crate::netlist::{
     constant, encode, input, moved, output, random_netlist, register, row, shuffled, Random, Row,
     Shape,
 };
+use crate::texts::{self, Style};
 use crate::twin::Clock;
 use crate::{library, twin};
 
@@ -13,6 +14,7 @@ pub enum Task {
     Count,
     Show { block: u32 },
     Sort,
+    Import,
     Run { steps: u32, choices: Vec<u8>, inputs: Vec<u8> },
     Fold { wish: u32 },
 }
@@ -24,7 +26,10 @@ pub struct Case {
     /// The highest time that is aimed at, in microseconds.
     pub most: Option<f64>,
     task: Task,
+    /// The file, or the text.
     file: Vec<u8>,
+    /// What the text is made by, until it is there.
+    make: Option<fn() -> Vec<u8>>,
     result: Vec<u8>,
     work: Vec<u8>,
     clocks: Vec<Clock>,
@@ -45,9 +50,22 @@ impl Case {
             most: None,
             task,
             file,
+            make: None,
             result: vec![0; 65_536],
             work: vec![0; 49_152],
             clocks: vec![Clock { label: 0, period: 0, word: 0, ones: 0 }; 256],
+        }
+    }
+
+    /// Of a text that is made when it is needed.
+    fn of_text(name: &str, target: f64, make: fn() -> Vec<u8>) -> Case {
+        Case { make: Some(make), ..Case::new(name, target, Task::Import, Vec::new()) }
+    }
+
+    /// Makes the text, before the first operation.
+    pub fn prepare(&mut self) {
+        if let Some(make) = self.make.take() {
+            self.file = make();
         }
     }
 
@@ -73,6 +91,8 @@ impl Case {
                 library::sort(file, &mut result[..file.len()], &mut work[..16_384]).is_ok()
             }
             Task::Sort => twin::sort(file, &mut result[..file.len()], &mut work[..16_384]).is_ok(),
+            Task::Import if ours => library::import(file, result, work).is_ok(),
+            Task::Import => twin::import(file, result, work).is_ok(),
             Task::Run { steps, choices, inputs } if ours => {
                 library::run(file, *steps, choices, inputs, result, &mut work[..16_384]).is_ok()
             }
@@ -234,6 +254,57 @@ fn sort_cases() -> Vec<Case> {
     cases
 }
 
+/// A text of as many rows as a file may have.
+fn whole_text(style: Style) -> Vec<u8> {
+    texts::text_of(10, 8064, style)
+}
+
+/// Imports of texts of 8,064 rows, of one block, and of more rows than a file may have.
+fn import_cases() -> Vec<Case> {
+    vec![
+        Case::of_text("Import, counting up", 2.0, || whole_text(Style::CountingUp)),
+        Case::of_text("Import, gaps", 8.0, || whole_text(Style::Gaps)),
+        Case::of_text("Import, shuffled", 8.0, || whole_text(Style::Shuffled)),
+        Case::of_text("Import, sparse, descending", 8.0, || whole_text(Style::Descending)),
+        Case::of_text("Import, low bits agree", 8.0, || whole_text(Style::LowBitsAgree)),
+        Case::of_text("Import, shuffled latches", 8.0, || texts::shuffled_latches(8064)),
+        Case::of_text("Import, reversed chain", 8.0, || texts::reversed_chain(8064)),
+        Case::of_text("Import, 63 rows", 3.0, || texts::text_of(10, 63, Style::CountingUp)),
+        Case::of_text("Import, 63 shuffled rows", 3.0, || texts::text_of(10, 63, Style::Shuffled)),
+        Case::of_text("Import, 100,000 gates", 2.0, || texts::many_gates(100_000)),
+    ]
+}
+
+/// Texts of about 1 MB that are refused.
+fn long_import_cases() -> Vec<Case> {
+    let texts: [(&str, fn() -> Vec<u8>); 11] = [
+        ("counted lines", texts::counted_lines),
+        ("one number", texts::digits_alone),
+        ("sparse inputs", || texts::long_definitions(Style::Sparse)),
+        ("shuffled inputs", || texts::long_definitions(Style::Shuffled)),
+        ("low bits, inputs", || texts::long_definitions(Style::LowBitsAgree)),
+        ("sparse gates", || texts::long_gates(Style::Sparse)),
+        ("shuffled gates", || texts::long_gates(Style::Shuffled)),
+        ("low bits, gates", || texts::long_gates(Style::LowBitsAgree)),
+        ("defined twice", texts::defined_twice),
+        ("undefined", texts::undefined_at_the_end),
+        ("longest ways", texts::longest_ways),
+    ];
+    let case = |(name, make): (&str, fn() -> Vec<u8>)| Case {
+        most: Some(500_000.0),
+        ..Case::of_text(&format!("Import 1 MB, {name}"), 0.0, make)
+    };
+    texts.into_iter().map(case).collect()
+}
+
+/// The texts of all measured imports.
+pub fn measured_texts() -> impl Iterator<Item = Vec<u8>> {
+    import_cases().into_iter().chain(long_import_cases()).map(|mut case| {
+        case.prepare();
+        case.file
+    })
+}
+
 /// The wish that a design is measured with.
 pub fn wish_of(design: &str) -> u32 {
     if design == "w8_fold" {
@@ -256,6 +327,8 @@ pub fn all_cases(designs: &[(String, Vec<u8>)]) -> Vec<Case> {
         run_case(60, 3, 1, 0.0),
     ];
     cases.extend(sort_cases());
+    cases.extend(import_cases());
+    cases.extend(long_import_cases());
     for (name, file) in designs {
         let wish = wish_of(name);
         let target = match name.as_str() {

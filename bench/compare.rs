@@ -4,14 +4,15 @@ use crate::netlist::{
     constant, damage, encode, input, output, random_netlist, random_shape, redrawn, register, row,
     shuffled, Random, Shape,
 };
+use crate::texts::random_text;
 use crate::twin::{Clock, Folded, Refusal};
-use crate::{library, twin};
+use crate::{cases, library, twin};
 
 /// What was compared: how often the twin answered each number, 0 for success, and how often the
 /// library differed.
 #[derive(Default)]
 struct Tally {
-    answered: [usize; 24],
+    answered: [usize; 26],
     differences: usize,
 }
 
@@ -31,7 +32,7 @@ impl Tally {
     fn print(&self, name: &str) {
         let all: usize = self.answered.iter().sum();
         print!(
-            "{name:5} {all:6} compared, {} differences; {} accepted, refused by number:",
+            "{name:6} {all:6} compared, {} differences; {} accepted, refused by number:",
             self.differences, self.answered[0]
         );
         for (number, times) in
@@ -114,6 +115,31 @@ fn compare_sorts(files: usize) -> Tally {
                 "Sort {ours:?}, twin {other:?}, naive {third:?}; result, work, naive same: {parts:?}"
             )
         });
+    }
+    tally
+}
+
+/// Import of the measured texts and of random ones.
+fn compare_imports(texts: usize) -> Tally {
+    let mut random = Random(15);
+    let mut tally = Tally::default();
+    let mut compare = |random: &mut Random, text: &[u8]| {
+        let result = vec![0xA5; nearly(random, 65_536)];
+        let work = vec![0x5A; nearly(random, 49_152)];
+        let [mut mine, mut others] = [(result.clone(), work.clone()), (result, work)];
+        let ours = library::import(text, &mut mine.0, &mut mine.1);
+        let other = twin::import(text, &mut others.0, &mut others.1);
+        tally.add(&other, ours == other && mine == others, || {
+            let parts = [mine.0 == others.0, mine.1 == others.1];
+            format!("Import {ours:?}, twin {other:?}; result, work same: {parts:?}")
+        });
+    };
+    for text in cases::measured_texts() {
+        compare(&mut random, &text);
+    }
+    for _ in 0..texts {
+        let text = random_text(&mut random);
+        compare(&mut random, &text);
     }
     tally
 }
@@ -233,6 +259,7 @@ fn sample_is_right() -> bool {
 pub fn compare_all(designs: &[(String, Vec<u8>)]) -> usize {
     let [checks, counts, shows] = compare_checks(10_000);
     let sorts = compare_sorts(4_000);
+    let imports = compare_imports(10_000);
     let runs = compare_runs(4_000);
     let folds = compare_folds(6_000, designs);
     let all = [
@@ -240,6 +267,7 @@ pub fn compare_all(designs: &[(String, Vec<u8>)]) -> usize {
         ("Count", counts),
         ("Show", shows),
         ("Sort", sorts),
+        ("Import", imports),
         ("Run", runs),
         ("Fold", folds),
     ];

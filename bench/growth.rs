@@ -1,16 +1,20 @@
-//! Netlists of one family at several sizes, to see how time grows with the rows.
+//! Netlists of one family at several sizes, and texts, to see how time grows with the rows.
 
 use crate::cases::{run_task, Case, Task};
 use crate::library;
 use crate::netlist::{
     constant, encode, input, output, random_gate, register, row, shuffled, Random, Row,
 };
+use crate::texts::{text_of, Style};
 use crate::twin::Clock;
 
 /// The smallest netlist there is, then ten times as many rows, up to Fold's limit and the file's.
 const SIZES: [usize; 5] = [2, 10, 100, 1008, 8064];
 const MOST_FOLDED: usize = 1008;
 const STEPS: u32 = 64;
+
+/// Rows of texts; those of the last two fit no file, and are refused for that alone.
+const TEXT_SIZES: [usize; 6] = [10, 100, 1008, 8064, 40_000, 200_000];
 
 /// Literal of the clock, row 1.
 const CLOCK: usize = 2;
@@ -78,6 +82,19 @@ pub fn all_cases() -> Vec<(&'static str, usize, Case)> {
                 _ => Task::Fold { wish: 0 },
             };
             cases.push((name, rows, Case::new(name, 0.0, task, file)));
+        }
+    }
+    cases
+}
+
+/// Import of texts whose definitions count up, and of such as are shuffled: the text, the rows, the
+/// bytes, the case.
+pub fn import_cases() -> Vec<(&'static str, usize, usize, Case)> {
+    let mut cases = Vec::new();
+    for (name, style) in [("counting up", Style::CountingUp), ("shuffled", Style::Shuffled)] {
+        for rows in TEXT_SIZES {
+            let text = text_of(16, rows, style);
+            cases.push((name, rows, text.len(), Case::new(name, 0.0, Task::Import, text)));
         }
     }
     cases

@@ -45,6 +45,14 @@ extern "C" {
         work: *mut u8,
         work_len: usize,
     ) -> PfWritten;
+    fn pf_import(
+        text: *const u8,
+        text_len: usize,
+        result: *mut u8,
+        result_len: usize,
+        work: *mut u8,
+        work_len: usize,
+    ) -> PfWritten;
     fn pf_fold(
         file: *const u8,
         file_len: usize,
@@ -98,6 +106,13 @@ pub fn sort(file: &[u8], result: &mut [u8], work: &mut [u8]) -> Result<u32, Refu
     let (file_len, result_len, work_len) = (file.len(), result.len(), work.len());
     let (result, work) = (result.as_mut_ptr(), work.as_mut_ptr());
     let told = unsafe { pf_sort(file.as_ptr(), file_len, result, result_len, work, work_len) };
+    answer(told.refusal, told.rows)
+}
+
+pub fn import(text: &[u8], result: &mut [u8], work: &mut [u8]) -> Result<u32, Refusal> {
+    let (text_len, result_len, work_len) = (text.len(), result.len(), work.len());
+    let (result, work) = (result.as_mut_ptr(), work.as_mut_ptr());
+    let told = unsafe { pf_import(text.as_ptr(), text_len, result, result_len, work, work_len) };
     answer(told.refusal, told.rows)
 }
 

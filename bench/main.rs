@@ -17,6 +17,7 @@ mod growth;
 mod library;
 mod netlist;
 mod peer;
+mod texts;
 mod twin;
 
 use cases::{Case, Side};
@@ -50,14 +51,18 @@ fn time_batch(case: &mut Case, side: Side, batch: u32) -> f64 {
     start.elapsed().as_secs_f64() * 1e6 / f64::from(batch)
 }
 
-/// The best time of each side, in turns: at least 40 batches, and for a second.
+/// The best time of each side, in turns: at least 40 batches and for a second, but of slow operations
+/// as many batches as take three seconds, and five at least.
 fn best_times(case: &mut Case) -> (f64, f64) {
+    case.prepare();
     let first = time_batch(case, Side::Twin, 1).max(0.05);
     let batch = (300.0 / first).clamp(1.0, 2000.0) as u32;
     let (mut ours, mut twin) = (f64::MAX, f64::MAX);
     let start = Instant::now();
     let mut rounds = 0;
-    while rounds < 40 || start.elapsed().as_millis() < 1000 {
+    let more =
+        |rounds: u32, taken: u128| rounds < 5 || taken < if rounds < 40 { 3000 } else { 1000 };
+    while more(rounds, start.elapsed().as_millis()) {
         ours = ours.min(time_batch(case, Side::Library, batch));
         twin = twin.min(time_batch(case, Side::Twin, batch));
         rounds += 1;
@@ -116,6 +121,21 @@ fn print_growth() {
         println!("{name:6} {rows:5} {ours:11.2} {twin:11.2} {ratio:6.2} {each:9.1}");
     }
     growth::print_folds();
+    print_import_growth();
+}
+
+/// Import; the last column is the library's time for each byte of the text.
+fn print_import_growth() {
+    let [library, twin, each] = ["library µs", "twin µs", "ns a byte"];
+    println!(
+        "{:11} {:>6} {:>7} {library:>11} {twin:>11} {:>6} {each:>9}",
+        "Import", "rows", "bytes", "ratio"
+    );
+    for (name, rows, bytes, mut case) in growth::import_cases() {
+        let (ours, twin) = best_times(&mut case);
+        let (ratio, each) = (ours / twin, 1000.0 * ours / bytes as f64);
+        println!("{name:11} {rows:6} {bytes:7} {ours:11.2} {twin:11.2} {ratio:6.2} {each:9.1}");
+    }
 }
 
 fn main() {
@@ -142,6 +162,7 @@ fn main() {
         ["--one", number, side] => {
             let side = if side == "library" { Side::Library } else { Side::Twin };
             let case = &mut cases[number.parse::<usize>().expect("a number")];
+            case.prepare();
             black_box(measured_operation(case, side));
         }
         _ => exit(2),

@@ -1,6 +1,8 @@
-//! A plain Rust phase folder, written from the scope paper alone, and a sorter by the same passes as
-//! the library's: the answers and the speed of the library are compared with it. It allocates what it
-//! needs and clears `work` as the paper asks.
+//! A plain Rust phase folder and importer, written from the scope paper and the change requests alone,
+//! and a sorter by the same passes as the library's: the answers and the speed of the library are
+//! compared with it. It allocates what it needs and clears `work` as the paper asks.
+
+use std::collections::HashMap;
 
 /// The number of the question that was answered no, and its place.
 #[derive(Clone, Copy, PartialEq, Eq, Debug)]
@@ -937,15 +939,18 @@ fn sort_questions(file: &[u8], result: usize, work: usize) -> Result<Vec<Row>, R
     Ok(decode_rows(file))
 }
 
-/// Sorts a file; answers how many rows it has.
-pub fn sort(file: &[u8], result: &mut [u8], work: &mut [u8]) -> Result<u32, Refusal> {
-    work.fill(0);
-    let rows = sort_questions(file, result.len(), work.len())?;
-    if let Some(row) = find_loop(&rows) {
+/// Question 22; then the file of the rows, sorted. Answers how many rows it has.
+fn write_sorted(rows: &[Row], result: &mut [u8]) -> Result<u32, Refusal> {
+    if let Some(row) = find_loop(rows) {
         return refuse(22, row);
     }
-    write_file(&move_rows(&rows, &number_rows(&rows)), result);
+    write_file(&move_rows(rows, &number_rows(rows)), result);
     Ok(rows.len() as u32)
+}
+
+pub fn sort(file: &[u8], result: &mut [u8], work: &mut [u8]) -> Result<u32, Refusal> {
+    work.fill(0);
+    write_sorted(&sort_questions(file, result.len(), work.len())?, result)
 }
 
 /// The same, but after each gate that is placed it looks for the next from the first row on.
@@ -967,4 +972,176 @@ pub fn sort_naively(file: &[u8], result: &mut [u8], work: &mut [u8]) -> Result<u
     order.place_kinds(&rows, OUTPUT..=OUTPUT);
     write_file(&move_rows(&rows, &order.slots), result);
     Ok(rows.len() as u32)
+}
+
+// ---- Import ----
+
+/// The node of each variable: in a table over all variables, if the text has as many bytes.
+enum Names {
+    Table(Vec<u32>),
+    Map(HashMap<u32, u32>),
+}
+
+impl Names {
+    fn new(most: usize, nodes: usize, bytes: usize) -> Names {
+        if most <= bytes {
+            Names::Table(vec![0; most + 1])
+        } else {
+            Names::Map(HashMap::with_capacity(nodes.min(bytes / 2)))
+        }
+    }
+
+    /// Gives a variable its node; says whether it is the first.
+    fn define(&mut self, variable: u32, node: u32) -> bool {
+        match self {
+            Names::Table(nodes) => std::mem::replace(&mut nodes[variable as usize], node) == 0,
+            Names::Map(nodes) => nodes.insert(variable, node).is_none(),
+        }
+    }
+
+    /// The literal with its node in place of its variable, if that is defined or constant.
+    fn translate(&self, literal: u32) -> Option<u32> {
+        let variable = literal / 2;
+        let node = match self {
+            _ if variable == 0 => 0,
+            Names::Table(nodes) => *nodes.get(variable as usize).filter(|&&node| node > 0)?,
+            Names::Map(nodes) => *nodes.get(&variable)?,
+        };
+        Some(2 * node + literal % 2)
+    }
+}
+
+/// The bytes of a text that are not yet read.
+struct Reader<'a>(std::slice::Iter<'a, u8>);
+
+impl Reader<'_> {
+    /// A number, and the byte that ends it.
+    fn number(&mut self) -> Option<(u32, u8)> {
+        let digit = |byte: u8| byte.is_ascii_digit().then(|| u32::from(byte - b'0'));
+        let mut number = digit(*self.0.next()?)?;
+        loop {
+            let byte = *self.0.next()?;
+            match digit(byte) {
+                None => return Some((number, byte)),
+                Some(_) if number == 0 => return None,
+                Some(digit) => number = number.checked_mul(10)?.checked_add(digit)?,
+            }
+        }
+    }
+
+    /// A number that this byte ends.
+    fn before(&mut self, end: u8) -> Option<u32> {
+        self.number().filter(|&(_, byte)| byte == end).map(|(number, _)| number)
+    }
+}
+
+/// The lines that the header counts, read one after the other.
+struct Lines<'a> {
+    reader: Reader<'a>,
+    /// M.
+    most: u32,
+    names: Names,
+    nodes: u32,
+}
+
+impl Lines<'_> {
+    /// A new node's literal.
+    fn definition(&mut self, end: u8) -> Option<u32> {
+        let literal = self.reader.before(end)?;
+        let variable = literal / 2;
+        let right = literal % 2 == 0 && (1..=self.most).contains(&variable);
+        self.nodes += 1;
+        (right && self.names.define(variable, self.nodes)).then_some(literal)
+    }
+
+    fn input(&mut self) -> Option<()> {
+        self.definition(b'\n').map(|_| ())
+    }
+
+    /// Next value and reset, which may be missing.
+    fn latch(&mut self) -> Option<(u32, u8)> {
+        let latch = self.definition(b' ')?;
+        let (next, end) = self.reader.number()?;
+        if end == b'\n' {
+            return Some((next, 0));
+        }
+        match self.reader.before(b'\n').filter(|_| end == b' ')? {
+            reset @ 0..=1 => Some((next, reset as u8)),
+            reset => (reset == latch).then_some((next, 2)),
+        }
+    }
+
+    fn gate(&mut self) -> Option<(u32, u32)> {
+        self.definition(b' ')?;
+        Some((self.reader.before(b' ')?, self.reader.before(b'\n')?))
+    }
+}
+
+/// What a text says, by nodes.
+struct Lists {
+    inputs: usize,
+    latches: Vec<(u32, u8)>,
+    gates: Vec<(u32, u32)>,
+    outputs: Vec<u32>,
+}
+
+/// Question 24.
+fn read_text(text: &[u8]) -> Option<Lists> {
+    let mut reader = Reader(text.strip_prefix(b"aag ")?.iter());
+    let mut counts = [0u32; 5];
+    for (count, end) in counts.iter_mut().zip(*b"    \n") {
+        *count = reader.before(end)?;
+    }
+    let [most, inputs, latches, outputs, gates] = counts;
+    if outputs == 0 {
+        return None;
+    }
+    let nodes = [inputs, latches, gates].iter().map(|&count| count as usize).sum();
+    let names = Names::new(most as usize, nodes, text.len());
+    let mut lines = Lines { reader, most, names, nodes: 0 };
+    (0..inputs).try_for_each(|_| lines.input())?;
+    let mut latches: Vec<_> = (0..latches).map(|_| lines.latch()).collect::<Option<_>>()?;
+    let mut outputs: Vec<_> =
+        (0..outputs).map(|_| lines.reader.before(b'\n')).collect::<Option<_>>()?;
+    let mut gates: Vec<_> = (0..gates).map(|_| lines.gate()).collect::<Option<_>>()?;
+    for (next, _) in &mut latches {
+        *next = lines.names.translate(*next)?;
+    }
+    for output in &mut outputs {
+        *output = lines.names.translate(*output)?;
+    }
+    for (a, b) in &mut gates {
+        (*a, *b) = (lines.names.translate(*a)?, lines.names.translate(*b)?);
+    }
+    Some(Lists { inputs: inputs as usize, latches, gates, outputs })
+}
+
+/// Constant, inputs, latches, gates and outputs; labels are positions.
+fn rows_of(lists: &Lists) -> Vec<Row> {
+    let row = |kind: u8, reset: u8, a: usize, b: usize| {
+        let [a, b] = [a as u16, b as u16];
+        Row { kind, reset, a, b, c: 0 }
+    };
+    let mut rows = vec![row(CONSTANT, 0, 0, 0)];
+    rows.extend((0..lists.inputs).map(|label| row(INPUT, 0, label, 0)));
+    let latches = lists.latches.iter().enumerate();
+    rows.extend(latches.map(|(label, &(next, reset))| row(REGISTER, reset, next as usize, label)));
+    rows.extend(lists.gates.iter().map(|&(a, b)| row(AND, 0, a as usize, b as usize)));
+    let outputs = lists.outputs.iter().enumerate();
+    rows.extend(outputs.map(|(label, &literal)| row(OUTPUT, 0, literal as usize, label)));
+    rows
+}
+
+/// Questions 23, 24, 25 and 22.
+pub fn import(text: &[u8], result: &mut [u8], work: &mut [u8]) -> Result<u32, Refusal> {
+    work.fill(0);
+    if result.len() < MOST_BYTES || work.len() < 49_152 {
+        return refuse(23, 0);
+    }
+    let Some(lists) = read_text(text) else { return refuse(24, 0) };
+    let nodes = 1 + lists.inputs + lists.latches.len() + lists.gates.len();
+    if nodes + lists.outputs.len() > MOST_BYTES / BLOCK * ROWS_A_BLOCK {
+        return refuse(25, 0);
+    }
+    write_sorted(&rows_of(&lists), result)
 }

@@ -1,4 +1,4 @@
-/* phasefold: checks, counts, shows, sorts, folds and runs netlist files.
+/* phasefold: checks, counts, shows, sorts, folds and runs netlist files, and imports AIGER texts.
  *
  * A slice is a pointer and its length. With length 0 the pointer may be NULL; else it is not. All
  * memory is lent by the caller: nothing is allocated, and nothing is kept after the return. A part that is written, `result`, `work` or `clocks`, overlaps no other part
@@ -21,7 +21,7 @@
 #include <stdint.h>
 
 /* Another number for every change of this interface. */
-#define PF_VERSION 2
+#define PF_VERSION 3
 
 /* A block's bytes and rows, and the bytes of the longest file. */
 #define PF_BLOCK_SIZE 512
@@ -41,6 +41,10 @@
 
 /* What pf_sort needs, at least: bytes of `work`. */
 #define PF_SORT_WORK 16384
+
+/* What pf_import needs, at least: bytes of `result`, bytes of `work`. */
+#define PF_IMPORT_RESULT 65536
+#define PF_IMPORT_WORK 49152
 
 #ifdef __cplusplus
 extern "C" {
@@ -97,6 +101,19 @@ pf_refusal pf_run(const uint8_t *file, size_t file_len, uint32_t steps, const ui
  * place is the lowest gate that is in a loop or behind one). */
 pf_written pf_sort(const uint8_t *file, size_t file_len, uint8_t *result, size_t result_len,
                    uint8_t *work, size_t work_len);
+
+/* Makes a netlist file of an ASCII AIGER text: "aag ", the five numbers M I L O A, then a line for each
+ * input, latch, output and gate; what follows these lines is ignored. The constant comes first, then
+ * inputs, latches, gates as pf_sort puts them, outputs; labels are positions from 0 in each list.
+ * `result` then starts with the file, PF_FILE_SIZE(rows) bytes, and is zero after it. At least
+ * PF_IMPORT_RESULT bytes of `result` and PF_IMPORT_WORK of `work` are needed. Refusals, in this order:
+ * 23 (memory), 24 (other text), 25 (more rows than a file has), 22 (a loop of gates; the place is the
+ * row, before sorting, of the lowest gate that is in a loop or behind one).
+ * The time is linear in the text's length where definitions count up, 2, 4, 6 and so on, as AIGER's own
+ * tools write them. For other texts of more rows than a file has it grows with the square of the
+ * length: whoever takes texts from strangers should limit their length. */
+pf_written pf_import(const uint8_t *text, size_t text_len, uint8_t *result, size_t result_len,
+                     uint8_t *work, size_t work_len);
 
 #ifdef __cplusplus
 }

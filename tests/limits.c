@@ -101,6 +101,39 @@ static void expect_sort(size_t size)
     expect("its result", result[0] == 0xa5 && result[size - 1] == 0xa5, 1);
 }
 
+/* What an import leaves: the rows of the text, zeros after the file, which is accepted, and in work; then each refusal, which leaves the result as it was. */
+static size_t import(const char *text, size_t result_size, size_t work_size)
+{
+    return pf_import((const uint8_t *)text, strlen(text), result, result_size, work, work_size).number;
+}
+
+static void expect_import(void)
+{
+    static const char text[] = "aag 3 1 1 1 1\n2\n4 6 1\n4\n6 2 5\n";
+    size_t zeros = 0, clear = 0;
+    fill(0xa5);
+    pf_written imported = pf_import((const uint8_t *)text, strlen(text), result, sizeof result, work, sizeof work);
+    size_t length = PF_FILE_SIZE(imported.rows);
+    for (size_t k = length; k < sizeof result; k++) zeros += result[k] == 0;
+    for (size_t k = 0; k < sizeof work; k++) clear += work[k] == 0;
+    expect("import", imported.number, 0);
+    expect("the imported file's rows", imported.rows, 5);
+    expect("the imported file", pf_check(result, length).number, 0);
+    expect("its registers", pf_count(result, length).registers, 1);
+    expect("zeros after the imported file", zeros, sizeof result - length);
+    expect("work that is zero after import", clear, sizeof work);
+    expect("the least memory of import", import(text, PF_IMPORT_RESULT, PF_IMPORT_WORK), 0);
+    fill(0xa5);
+    expect("a short result of import", import(text, PF_IMPORT_RESULT - 1, PF_IMPORT_WORK), 23);
+    expect("short work of import", import(text, PF_IMPORT_RESULT, PF_IMPORT_WORK - 1), 23);
+    expect("other text", import("aig 0 0 0 1 0\n0\n", PF_IMPORT_RESULT, PF_IMPORT_WORK), 24);
+    expect("a loop of the text", import("aag 1 0 0 1 1\n2\n2 2 2\n", PF_IMPORT_RESULT, PF_IMPORT_WORK), 22);
+    expect("the result of a refused import", result[0] == 0xa5 && result[sizeof result - 1] == 0xa5, 1);
+    expect("import of NULL", pf_import(NULL, 0, result, sizeof result, work, sizeof work).number, 24);
+    expect("import, result NULL", pf_import(NULL, 0, NULL, 0, work, sizeof work).number, 23);
+    expect("import, work NULL", pf_import(NULL, 0, result, sizeof result, NULL, 0).number, 23);
+}
+
 /* A part of length 0 may be NULL, and is refused or not as any other of that length. */
 static void expect_null(size_t size)
 {
@@ -124,7 +157,7 @@ int main(int count, char **words)
     size_t size = fread(file, 1, sizeof file, from);
     fclose(from);
 
-    expect("version", PF_VERSION, 2);
+    expect("version", PF_VERSION, 3);
     expect("a file of 1 row", PF_FILE_SIZE(1), PF_BLOCK_SIZE);
     expect("a file of 63 rows", PF_FILE_SIZE(PF_BLOCK_ROWS), PF_BLOCK_SIZE);
     expect("a file of 64 rows", PF_FILE_SIZE(PF_BLOCK_ROWS + 1), 2 * PF_BLOCK_SIZE);
@@ -141,5 +174,6 @@ int main(int count, char **words)
     expect_fold(size);
     expect_null(size);
     expect_sort(size);
+    expect_import();
     return wrong;
 }

@@ -23,5 +23,5 @@ pub fold-refused : (a : Folding) (q : FoldRefusal) (r : PfRefusal) → a ≡ Ref
     → _≡_ {A = PfFolded} (record { number = r .number; place = r .place; stem = 0; cycle = 0; phases = 0; used = 0; before = 0; after = 0 }) (foldedNumbers a)
 fold-refused a q r e h = rw (h, e) refl
 
-pub written-by : (q : Refusal) (n p m : ℕ) → n ≡ q .number → p ≡ q .place → _≡_ {A = PfWritten} (record { number = n; place = p; rows = m }) (writtenNumbers q m)
-written-by q n p m en ep = rw (en, ep) refl
+pub unwritten-by : (q : Refusal) (n p : ℕ) (r : PfWritten) → n ≡ q .number → p ≡ q .place → r .number ≡ n → r .place ≡ p → r .rows ≡ 0 → r ≡ writtenNumbers q 0
+unwritten-by q n p r en ep a b c = rw (← en, ← ep, ← a, ← b, ← c) refl

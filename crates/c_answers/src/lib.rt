@@ -8,12 +8,14 @@ ghost use Rattle.accept.specs.Refusals.{refusalIn};
 ghost use Rattle.run.specs.RunAnswers.{runRefusalIn};
 ghost use Rattle.fold_refusals.specs.FoldRefusals.{foldRefusalIn};
 ghost use Rattle.show.specs.ShowOutcome.{partOffset};
+ghost use Rattle.import.specs.ImportAnswers.{importRefusalIn};
 ghost use Rattle.sort.specs.SortAnswers.{sortRefusalIn};
 ghost use Rattle.c_answers.specs.AnswerNumbers.{refusalNumbers, acceptedCounts, refusedCounts, foldedNumbers, writtenNumbers};
 use accept::FileRefusal;
 use blockfile::count::Counts;
 use fold_core::FoldRefusal;
 use fold_core::Folding;
+use import::ImportRefusal;
 use run::RunRefusal;
 use sort::SortRefusal;
 
@@ -174,15 +176,31 @@ pub fn written(rows: u32) -> PfWritten
     }
 }
 
+// No file was written.
+fn unwritten(number: u32, place: u32) -> PfWritten
+    ensures { λ r. ⌜ (r .number ≡ number) × ((r .place ≡ place) × (r .rows ≡ 0)) ⌝ }
+{
+    PfWritten {
+        number: number,
+        place: place,
+        rows: 0,
+    }
+}
+
 // A refused Sort.
 pub fn unsorted(refusal: SortRefusal) -> PfWritten
     ensures { λ r. ⌜ r ≡ writtenNumbers (sortRefusalIn refusal) 0 ⌝ }
 {
     let number = sort::number_of(refusal);
     let place = sort::place_of(refusal);
-    PfWritten {
-        number: number,
-        place: place,
-        rows: 0,
-    }
+    unwritten(number, place)
+}
+
+// A refused Import.
+pub fn unimported(refusal: ImportRefusal) -> PfWritten
+    ensures { λ r. ⌜ r ≡ writtenNumbers (importRefusalIn refusal) 0 ⌝ }
+{
+    let number = import::number_of(refusal);
+    let place = import::place_of(refusal);
+    unwritten(number, place)
 }

@@ -2,3 +2,4 @@
 pub mod Examples
 pub mod LongFile
 pub mod Table
+pub mod AigerTexts

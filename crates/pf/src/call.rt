@@ -17,6 +17,7 @@ pub enum Command {
     Show,
     Rows,
     Make,
+    Import,
     Sort,
     Fold,
     Clocks,
@@ -34,6 +35,9 @@ pub fn is_help(word: &[u8]) -> bool {
 fn command_of_two_files(word: &[u8]) -> Command {
     if same(word, b"make") {
         return Command::Make;
+    }
+    if same(word, b"import") {
+        return Command::Import;
     }
     if same(word, b"sort") {
         return Command::Sort;
@@ -83,6 +87,7 @@ pub fn count_right(command: Command, count: usize) -> bool {
         Command::Show => count == 2,
         Command::Rows => count == 1,
         Command::Make => count == 2,
+        Command::Import => count == 2,
         Command::Sort => count == 2,
         Command::Fold => within(count, 1, 3),
         Command::Clocks => within(count, 1, 2),
@@ -100,6 +105,7 @@ fn tell_form(fd: i32, command: Command, width: usize) -> bool {
         Command::Show => tell_padded(fd, b"pf show FILE BLOCK", width),
         Command::Rows => tell_padded(fd, b"pf rows FILE", width),
         Command::Make => tell_padded(fd, b"pf make ROWS FILE", width),
+        Command::Import => tell_padded(fd, b"pf import TEXT FILE", width),
         Command::Sort => tell_padded(fd, b"pf sort FILE RESULT", width),
         Command::Fold => tell_padded(fd, b"pf fold FILE [WISH [RESULT]]", width),
         Command::Clocks => tell_padded(fd, b"pf clocks FILE [WISH]", width),
@@ -126,6 +132,7 @@ fn tell_purpose(command: Command) -> bool {
         Command::Show => put_out(b"the 504 row bytes of a block\n"),
         Command::Rows => put_out(b"its rows as text: number kind reset a b c\n"),
         Command::Make => put_out(b"a netlist file from such text\n"),
+        Command::Import => put_out(b"a netlist file from an AIGER text\n"),
         Command::Sort => put_out(b"puts its gates in order, each after those that it names\n"),
         Command::Fold => {
             put_out(b"folds it into WISH phases, 1 to 8; 0 or none lets it choose\n")
@@ -147,6 +154,9 @@ fn tell_details(command: Command) -> bool {
         Command::Rows => put_out(b"A literal is 2 x row, and 1 more if it is inverted.\n"),
         Command::Make => put_out(
             b"ROWS has a line for each row, in order: number kind reset a b c. # begins a remark.\nkind 0: the constant, row 0 alone\nkind 1: input, a label, b phase\nkind 2: register, a next value, b label; reset 0, 1, or 2 for unknown\nkind 3: AND of a and b; kind 4: XOR of a and b\nkind 5: MUX, b if a is 1, c if a is 0\nkind 6: output, a what it shows, b label, c phase\nA next value, an operand and what an output shows is a literal: 2 x row, and 1 more if it is inverted.\nGates may stand in any order; pf sort puts them in order.\nA file at FILE is replaced only if it is empty or a netlist file. FILE may be - for standard output.\n",
+        ),
+        Command::Import => put_out(
+            b"TEXT is ASCII AIGER: it opens with `aag `, and its header has five numbers, M I L O A. What follows the lines that these count is not read. Of a longer TEXT the first 1048576 bytes are read, which is enough if its rows fit a file.\nPrints how many rows there are: the constant, inputs, latches, gates as pf sort puts them in order, outputs. A label is a position, from 0.\nOther text is refused with 24, more than 8064 rows with 25, a loop of gates with 22.\nA file at FILE is replaced only if it is empty or a netlist file.\nIf FILE is -, the file goes to standard output, and what is printed to standard error.\n",
         ),
         Command::Sort => put_out(
             b"Prints how many rows there are. In FILE a gate may name any node; only make, rows and sort take such a file.\nThe constant comes first, then inputs and registers, then always the lowest gate whose gate operands are placed, then outputs.\nA loop of gates has no order: it is refused with 22, and its gates are named.\nThe sorted file is kept in RESULT. A file there is replaced only if it is empty or a netlist file.\nIf RESULT is -, the sorted file goes to standard output, and what is printed to standard error.\n",
@@ -181,17 +191,21 @@ fn tell_help_of_files() -> bool {
 // Help on those that make something of it.
 fn tell_help_of_work() -> bool {
     let made = tell_help(Command::Make);
+    let imported = tell_help(Command::Import);
     let ordered = tell_help(Command::Sort);
     let folded = tell_help(Command::Fold);
     let drawn = tell_help(Command::Clocks);
     let ran = tell_help(Command::Run);
-    both(both(both(made, ordered), folded), both(drawn, ran))
+    both(
+        both(both(made, imported), both(ordered, folded)),
+        both(drawn, ran),
+    )
 }
 
 // What holds for all commands.
 fn tell_last_lines() -> bool {
     put_out(
-        b"FILE, ROWS and VALUES may be - for standard input; ROWS and VALUES have at most 1048576 bytes\nexit status: 0 done, 1 refused (refused NUMBER PLACE), 2 a wrong call, or a file that cannot be read or written\n",
+        b"FILE, ROWS, TEXT and VALUES may be - for standard input; ROWS and VALUES have at most 1048576 bytes\nexit status: 0 done, 1 refused (refused NUMBER PLACE), 2 a wrong call, or a file that cannot be read or written\n",
     )
 }
 

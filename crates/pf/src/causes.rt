@@ -12,7 +12,9 @@ use listing::rows::fields_of;
 use listing::rows::last_block;
 use listing::rows::row_count;
 use text::both;
+use text::bytes::first;
 use text::bytes::get;
+use text::bytes::same;
 use text::out::one;
 use text::out::two;
 
@@ -140,11 +142,24 @@ fn looks_like_text(file: &[u8]) -> bool {
     both(start, more)
 }
 
+// Of what kind of text a file looks, and what makes a netlist file of that.
+fn say_kind_of_text(file: &[u8]) {
+    if same(first(file, 4), b"aag ") {
+        say_text(b"; this is an AIGER text, of which pf import makes a netlist file");
+    } else if same(first(file, 4), b"aig ") {
+        say_text(
+            b"; this is binary AIGER: aigtoaig makes a text of it, and pf import of that a netlist file",
+        );
+    } else {
+        say_text(b"; it looks like text, of which pf make makes a netlist file");
+    }
+}
+
 // A file that is refused for its length or its first block may be a text.
 fn say_text_remark(file: &[u8], number: u32) {
     if number <= 3 {
         if looks_like_text(file) {
-            say_text(b"; it looks like text, of which pf make makes a netlist file");
+            say_kind_of_text(file);
         }
     }
 }

@@ -1,10 +1,12 @@
-// The command pf: Check, Count, Show, Sort, Fold and Run of netlist files, their rows as text and back, and clocks drawn.
+// The command pf: Check, Count, Show, Sort, Fold and Run of netlist files, their rows as text and back, AIGER text in, and clocks drawn.
 // The script that starts it opens descriptor 3, to which its outcome goes as a digit, and those of a result that is kept (`saving`).
+mod aiger_causes;
 mod answers;
 mod block_causes;
 mod call;
 mod causes;
 mod folding;
+mod importing;
 mod loop_causes;
 mod make;
 mod outcome;
@@ -85,6 +87,7 @@ fn perform_counted(
 ) -> Outcome {
     match command {
         Command::Make => make::make(path, second),
+        Command::Import => importing::import(path, second),
         Command::Help => call::help(count, path),
         _ => perform_on_file(command, count, path, second, third),
     }

@@ -24,6 +24,7 @@ use listing::rows::MOST_ROWS;
 use listing::rows::file_bytes;
 use text::bytes::first;
 use text::bytes::rest;
+use text::bytes::same;
 use text::files::Loaded;
 use text::numbers::number_at;
 use text::out::one;
@@ -189,10 +190,17 @@ fn make_file(source: &[u8], text: &[u8], path: &[u8], result: &mut [u8]) -> Outc
     }
 }
 
-// The file of a text, unless it is a netlist file.
+// The file of a text, unless it is a netlist file or an AIGER text.
 fn make_in_room(source: &[u8], text: &[u8], path: &[u8]) -> Outcome {
     if is_first_block(text) {
         return refuse_text(source, 1, b"this is a netlist file already, and no text\n");
+    }
+    if same(first(text, 4), b"aag ") {
+        return refuse_text(
+            source,
+            1,
+            b"this is an AIGER text, of which pf import makes a netlist file\n",
+        );
     }
     let mut result = io::large_buffer();
     make_file(source, text, path, &mut result)

@@ -29,8 +29,13 @@ use Rattle.sort.specs.SortOutcome.{Sorted}
 use Rattle.sort.specs.declared.Sorting.{Sorting}
 use Rattle.sort.specs.declared.Sorting.the-variants as sort
 use Rattle.sort.specs.declared.SortRefusal.{SortRefusal}
+use Rattle.import.specs.ImportAnswers as imports
+use Rattle.import.specs.ImportOutcome.{Imported}
+use Rattle.import.specs.declared.Importing.{Importing}
+use Rattle.import.specs.declared.Importing.the-variants as import
+use Rattle.import.specs.declared.ImportRefusal.{ImportRefusal}
 use Rattle.c_answers.specs.AnswerNumbers.{refusalNumbers, acceptedCounts, refusedCounts, writtenNumbers}
-use Rattle.phasefold.specs.ForeignAnswers.{countNumbers, RanFlat, SortedFlat}
+use Rattle.phasefold.specs.ForeignAnswers.{countNumbers, RanFlat, SortedFlat, ImportedFlat}
 use Rattle.count.specs.declared.CountAnswer.{CountAnswer}
 use Rattle.count.specs.declared.CountAnswer.the-variants as count
 use Rattle.c_answers.specs.declared.PfRefusal.{PfRefusal}
@@ -78,3 +83,10 @@ module _ (file result result′ work work′ : List ℕ) (a : Sorting) (S : Sort
 
   pub sort-refused-flat : (q : SortRefusal) → a ≡ sort.Refused q → r ≡ writtenNumbers (sortRefusalIn q) 0 → SortedFlat file result result′ work work′ r
   sort-refused-flat q e h = record { answer = a; sorted = S; flat = h ∙ ap (λ (x : Sorting). writtenNumbers (sortingRefusal x) (rowsIn x)) (sym e) }
+
+module _ (text result result′ work work′ : List ℕ) (a : Importing) (I : Imported text result result′ work work′ a) (r : PfWritten) where
+  pub imported-flat : (n : ℕ) → a ≡ import.Done n → r ≡ writtenNumbers noRefusal n → ImportedFlat text result result′ work work′ r
+  imported-flat n e h = record { answer = a; imported = I; flat = h ∙ ap (λ (x : Importing). writtenNumbers (imports.importingRefusal x) (imports.rowsIn x)) (sym e) }
+
+  pub import-refused-flat : (q : ImportRefusal) → a ≡ import.Refused q → r ≡ writtenNumbers (imports.importRefusalIn q) 0 → ImportedFlat text result result′ work work′ r
+  import-refused-flat q e h = record { answer = a; imported = I; flat = h ∙ ap (λ (x : Importing). writtenNumbers (imports.importingRefusal x) (imports.rowsIn x)) (sym e) }

@@ -1,5 +1,5 @@
 -- The entire outcome of each operation as C callers get it: the scope paper, "Questions, in order" and "Operations and lent memory", and the change requests.
--- Interface: countNumbers, ShownFlat, RanFlat, FoldedFlat, SortedFlat; Check's is `refusalNumbers` of `fileRefusal`.
+-- Interface: countNumbers, ShownFlat, RanFlat, FoldedFlat, SortedFlat, ImportedFlat; Check's is `refusalNumbers` of `fileRefusal`.
 -- Assumes nothing.
 use Prim.Native.Nat.{ℕ}
 use mathlib.Core.Path.{_≡_}
@@ -19,6 +19,9 @@ use Rattle.fold.specs.FoldedOutcome.{Folded}
 use Rattle.sort.specs.SortAnswers.{sortingRefusal, rowsIn}
 use Rattle.sort.specs.SortOutcome.{Sorted}
 use Rattle.sort.specs.declared.Sorting.{Sorting}
+use Rattle.import.specs.ImportAnswers as imports
+use Rattle.import.specs.ImportOutcome.{Imported}
+use Rattle.import.specs.declared.Importing.{Importing}
 use Rattle.c_answers.specs.AnswerNumbers.{refusalNumbers, acceptedCounts, refusedCounts, foldedNumbers, writtenNumbers}
 use Rattle.c_answers.specs.declared.PfRefusal.{PfRefusal}
 use Rattle.c_answers.specs.declared.PfCounts.{PfCounts}
@@ -52,3 +55,9 @@ pub record SortedFlat (file result result′ work work′ : List ℕ) (r : PfWri
   pub answer : Sorting
   pub sorted : Sorted file result result′ work work′ answer
   pub flat : r ≡ writtenNumbers (sortingRefusal answer) (rowsIn answer)
+
+-- Import's outcome, with its answer as numbers.
+pub record ImportedFlat (text result result′ work work′ : List ℕ) (r : PfWritten) : Type 0 where
+  pub answer : Importing
+  pub imported : Imported text result result′ work work′ answer
+  pub flat : r ≡ writtenNumbers (imports.importingRefusal answer) (imports.rowsIn answer)

@@ -1,4 +1,4 @@
-// The phase folder's public library: Check, Count, Show, Sort, Run and Fold, and a file for each with its export to C: there a slice is a pointer and a length.
+// The phase folder's public library: Check, Count, Show, Sort, Import, Run and Fold, and a file for each with its export to C: there a slice is a pointer and a length.
 pub use accept::Acceptance;
 pub use accept::FileRefusal;
 pub use accept::accept as check;
@@ -10,6 +10,9 @@ pub use fold::fold;
 pub use fold_core::FoldNumbers;
 pub use fold_core::FoldRefusal;
 pub use fold_core::Folding;
+pub use import::ImportRefusal;
+pub use import::Importing;
+pub use import::import;
 pub use run::RunAnswer;
 pub use run::RunRefusal;
 pub use run::run;
@@ -21,6 +24,7 @@ pub use sort::sort;
 pub mod c_check;
 pub mod c_count;
 pub mod c_fold;
+pub mod c_import;
 pub mod c_run;
 pub mod c_show;
 pub mod c_sort;

@@ -2,6 +2,8 @@
 use crate::bytes::after;
 use crate::bytes::byte;
 use crate::bytes::field;
+use crate::bytes::number;
+use crate::bytes::put_number;
 use crate::rows::Row;
 use crate::rows::kind_at;
 use crate::rows::node_of;
@@ -168,22 +170,12 @@ fn key_of(row: Row) -> u32 {
     }
 }
 
-fn key(keys: &[u32], at: usize) -> u32 {
-    if at < keys.len() { keys[at] } else { 0 }
-}
-
-fn put_key(keys: &mut [u32], at: usize, value: u32) {
-    if at < keys.len() {
-        keys[at] = value;
-    }
-}
-
 fn key_new(keys: &[u32], at: usize, wanted: u32) -> bool {
     if wanted == 0 {
         return true;
     }
     'rows: for row in 0..at {
-        if key(keys, row) == wanted {
+        if number(keys, row) == wanted {
             return false;
         }
     }
@@ -247,7 +239,7 @@ fn ask_rows(file: &[u8], rows: usize, keys: &mut [u32], any_order: bool) -> Verd
         if number != 0 {
             return said(number, at);
         }
-        put_key(keys, at, key_of(row_at(file, at)));
+        put_number(keys, at, key_of(row_at(file, at)));
     }
     said(0, 0)
 }

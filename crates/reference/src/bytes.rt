@@ -1,4 +1,4 @@
-// Bytes and 16-bit words of a lent run, by place. Past the end there are none: 0 is read, and nothing is written.
+// Bytes, 16-bit words and numbers of a lent run, by place. Past the end there are none: 0 is read, and nothing is written.
 pub fn after(i: usize) -> usize {
     std::num::wrapping_add_usize(i, 1)
 }
@@ -20,6 +20,16 @@ pub fn word(words: &[u16], at: usize) -> u16 {
 pub fn put_word(words: &mut [u16], at: usize, value: u16) {
     if at < words.len() {
         words[at] = value;
+    }
+}
+
+pub fn number(numbers: &[u32], at: usize) -> u32 {
+    if at < numbers.len() { numbers[at] } else { 0 }
+}
+
+pub fn put_number(numbers: &mut [u32], at: usize, value: u32) {
+    if at < numbers.len() {
+        numbers[at] = value;
     }
 }
 

@@ -1,9 +1,12 @@
-// A second folder and a second sorter, written from the texts alone, to hold the product against. Nothing here is shared with it.
+// A second folder, a second sorter and a second importer, written from the texts alone, to hold the product against. Nothing here is shared with it.
 pub mod asking;
 mod bytes;
 mod clocks;
 mod cone;
+pub mod equations;
 mod images;
+pub mod importing;
+mod lines;
 mod made;
 pub mod rows;
 pub mod sorting;

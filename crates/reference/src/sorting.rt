@@ -116,7 +116,7 @@ pub fn put_moved(file: &[u8], rows: usize, numbers: &[u16], result: &mut [u8]) {
     }
 }
 
-fn refused(verdict: Verdict) -> Sorted {
+pub fn refused(verdict: Verdict) -> Sorted {
     Sorted {
         number: verdict.number,
         place: verdict.place,
@@ -124,10 +124,10 @@ fn refused(verdict: Verdict) -> Sorted {
     }
 }
 
-fn sort_asked(file: &[u8], result: &mut [u8]) -> Sorted {
+// The sorted file of these rows, with nothing else asked.
+pub fn sort_rows(file: &[u8], rows: usize, result: &mut [u8]) -> Sorted {
     let mut room = [0u16; 8192];
     let numbers: &mut [u16] = &mut room;
-    let rows = rows_of(file);
     place_all(file, rows, numbers);
     let left = lowest_left(file, rows, numbers);
     if left < rows {
@@ -154,5 +154,5 @@ pub fn sort(file: &[u8], result: &mut [u8], work: &mut [u8]) -> Sorted {
     if short {
         return refused(said(23, 0));
     }
-    sort_asked(file, result)
+    sort_rows(file, rows_of(file), result)
 }

@@ -1,9 +1,11 @@
-// Random netlists and damaged files folded and sorted by the product and by the reference, a folder and a sorter written
-// separately from the paper's text; files and what is made of them run side by side; and the entries of the trainer's table that have no star.
+// Random netlists and damaged files folded and sorted, and random AIGER texts imported, by the product and by the reference, a
+// folder, a sorter and an importer written separately from the paper's text; files and what is made of them run side by side; and the entries of the trainer's table that have no star.
+mod aigers;
 mod damage;
 mod dice;
 mod files;
 mod folds;
+mod imports;
 mod netlists;
 mod pieces;
 mod runs;
@@ -166,5 +168,6 @@ fn main() {
     try_counter(8, tally);
     try_counter(9, tally);
     try_rounds(tally);
+    imports::try_all(tally);
     tally::print_all(tally);
 }

@@ -1,4 +1,4 @@
-// A file and its fold run side by side: the outputs are compared phase by phase. A sorted file beside the one that it was made from: step by step.
+// A file and its fold run side by side: the outputs are compared phase by phase. A sorted file beside the one that it was made from, an imported one beside its text: step by step.
 use crate::dice::put_values;
 use crate::dice::roll;
 use crate::pieces::plus;
@@ -413,4 +413,40 @@ pub fn try_sorted(original: &[u8], sorted: &[u8], seed: &mut u64, tally: &mut [u
     add(tally, crate::tally::SORTED_RUNS, 1);
     add(tally, crate::tally::SORTED_STEPS, steps);
     hold(tally, right, crate::tally::SORT_RUNS);
+}
+
+// ---- imported files
+
+// The text's run, by its own equations.
+fn run_text(text: &[u8], steps: usize, choices: &[u8], inputs: &[u8], shown: &mut [u8]) {
+    let mut tables = [0u32; ROOM];
+    let mut lists = [0u32; 8192];
+    reference::equations::run(text, steps, choices, inputs, shown, &mut tables, &mut lists);
+}
+
+// The imported file has the text's inputs and latches in their order, so both are given the same values.
+fn same_as_text(text: &[u8], file: &[u8], sizes: Sizes, values: &[u8]) -> bool {
+    let mut room = [0u8; ROOM];
+    let mut again_room = [0u8; ROOM];
+    let shown: &mut [u8] = &mut room;
+    let again: &mut [u8] = &mut again_room;
+    let choices = first(values, sizes.unknown);
+    let inputs = rest(values, sizes.unknown);
+    let done = run(file, sizes.steps, choices, inputs, shown);
+    run_text(text, sizes.steps, choices, inputs, again);
+    both(done, same(shown, again))
+}
+
+// One run of both, over a few steps.
+pub fn try_text(text: &[u8], file: &[u8], seed: &mut u64, tally: &mut [u64]) {
+    let mut lists = [0u8; VALUES_ROOM];
+    let values: &mut [u8] = &mut lists;
+    let steps = roll(seed, 8);
+    let sizes = sizes_of(file, file, steps, 1);
+    let size = plus(sizes.unknown, times(steps, sizes.inputs));
+    put_values(values, seed, size);
+    let right = same_as_text(text, file, sizes, first(values, size));
+    add(tally, crate::tally::IMPORTED_RUNS, 1);
+    add(tally, crate::tally::IMPORTED_STEPS, steps);
+    hold(tally, right, crate::tally::IMPORT_RUNS);
 }

@@ -128,7 +128,7 @@ fn compare_answers(answer: Sorted, right: Sorted, tally: &mut [u64]) {
 }
 
 // How much is lent: at times one byte too few, or some more.
-fn lent_of(seed: &mut u64, needed: usize) -> usize {
+pub fn lent_of(seed: &mut u64, needed: usize) -> usize {
     match roll(seed, 24) {
         0 => std::num::wrapping_sub_usize(needed, 1),
         1 | 2 | 3 => plus(needed, 16),
@@ -170,7 +170,7 @@ fn sort_both(file: &[u8], seed: &mut u64, result: &mut [u8], tally: &mut [u64]) 
 
 // ---- what is sorted
 
-fn is_stable(sorted: &[u8]) -> bool {
+pub fn is_stable(sorted: &[u8]) -> bool {
     let mut results = [FILL; RESULT_ROOM];
     let mut works = [FILL; WORK_ROOM];
     let result: &mut [u8] = &mut results;

@@ -28,37 +28,63 @@ pub const SORTED_RUNS: usize = 57;
 
 pub const SORTED_STEPS: usize = 58;
 
+// Imports by number, from here on as the folds above.
+pub const IMPORTS: usize = 59;
+
+// How many there are, how many of them are folded, and the runs and steps of the imported files.
+pub const ALL_IMPORTS: usize = 85;
+
+pub const IMPORTS_FOLDED: usize = 86;
+
+pub const IMPORTED_RUNS: usize = 87;
+
+pub const IMPORTED_STEPS: usize = 88;
+
 // Differences, each kind by itself, from here on.
-pub const CHECKS: usize = 59;
+pub const CHECKS: usize = 89;
 
-pub const ANSWERS: usize = 60;
+pub const ANSWERS: usize = 90;
 
-pub const RESULTS: usize = 61;
+pub const RESULTS: usize = 91;
 
-pub const ENTRIES: usize = 62;
+pub const ENTRIES: usize = 92;
 
-pub const FILE_RUNS: usize = 63;
+pub const FILE_RUNS: usize = 93;
 
-pub const FOLD_RUNS: usize = 64;
+pub const FOLD_RUNS: usize = 94;
 
-pub const COUNTS: usize = 65;
+pub const COUNTS: usize = 95;
 
-pub const SHOWS: usize = 66;
+pub const SHOWS: usize = 96;
 
-pub const SORT_ANSWERS: usize = 67;
+pub const SORT_ANSWERS: usize = 97;
 
-pub const SORT_RESULTS: usize = 68;
+pub const SORT_RESULTS: usize = 98;
 
-pub const SORT_WORKS: usize = 69;
+pub const SORT_WORKS: usize = 99;
 
-pub const UNACCEPTED: usize = 70;
+pub const UNACCEPTED: usize = 100;
 
-pub const UNSTABLE: usize = 71;
+pub const UNSTABLE: usize = 101;
 
-pub const SORT_RUNS: usize = 72;
+pub const SORT_RUNS: usize = 102;
+
+pub const IMPORT_ANSWERS: usize = 103;
+
+pub const IMPORT_RESULTS: usize = 104;
+
+pub const IMPORT_WORKS: usize = 105;
+
+pub const IMPORT_UNACCEPTED: usize = 106;
+
+pub const IMPORT_UNSTABLE: usize = 107;
+
+pub const IMPORT_RUNS: usize = 108;
+
+pub const IMPORT_FOLDS: usize = 109;
 
 // How many counts there are.
-pub const SLOTS: usize = 73;
+pub const SLOTS: usize = 110;
 
 pub fn count(tally: &[u64], at: usize) -> u64 {
     if at < tally.len() { tally[at] } else { 0 }
@@ -89,7 +115,7 @@ pub fn hold(tally: &mut [u64], same: bool, kind: usize) {
     add_if(tally, kind, !same);
 }
 
-fn differences(tally: &[u64]) -> u64 {
+pub fn differences(tally: &[u64]) -> u64 {
     let mut sum: u64 = 0;
     let end: usize = SLOTS;
     'kinds: for kind in CHECKS..end {
@@ -142,6 +168,16 @@ fn print_sorts(tally: &[u64]) {
     print_count(tally, b"\nsteps compared ", SORTED_STEPS);
 }
 
+fn print_imports(tally: &[u64]) {
+    print_count(tally, b"\nimports ", ALL_IMPORTS);
+    print_count(tally, b"\n  done: ", IMPORTS);
+    io::write_all(1, b"\n");
+    print_refusals(tally, IMPORTS, 22, 26);
+    print_count(tally, b"runs of text and imported file ", IMPORTED_RUNS);
+    print_count(tally, b"\nsteps compared ", IMPORTED_STEPS);
+    print_count(tally, b"\nimported files folded ", IMPORTS_FOLDED);
+}
+
 fn print_file_differences(tally: &[u64]) {
     print(b"\ndifferences ", differences(tally));
     print_count(tally, b"\n  in Check: ", CHECKS);
@@ -175,6 +211,24 @@ fn print_sort_differences(tally: &[u64]) {
         b"\n  in runs of the sorted file, beside the file: ",
         SORT_RUNS,
     );
+}
+
+fn print_import_differences(tally: &[u64]) {
+    print_count(tally, b"\n  in Import's answer: ", IMPORT_ANSWERS);
+    print_count(tally, b"\n  in the imported file's bytes: ", IMPORT_RESULTS);
+    print_count(tally, b"\n  in work after Import: ", IMPORT_WORKS);
+    print_count(
+        tally,
+        b"\n  in Check of the imported file: ",
+        IMPORT_UNACCEPTED,
+    );
+    print_count(tally, b"\n  in the imported file sorted: ", IMPORT_UNSTABLE);
+    print_count(
+        tally,
+        b"\n  in runs of the imported file, beside the text: ",
+        IMPORT_RUNS,
+    );
+    print_count(tally, b"\n  in folds of the imported file: ", IMPORT_FOLDS);
     io::write_all(1, b"\n");
 }
 
@@ -183,8 +237,10 @@ pub fn print_all(tally: &[u64]) {
     print_folds(tally);
     print_runs(tally);
     print_sorts(tally);
+    print_imports(tally);
     print_file_differences(tally);
     print_fold_differences(tally);
     print_run_differences(tally);
     print_sort_differences(tally);
+    print_import_differences(tally);
 }

@@ -1,0 +1,1 @@
+// ASCII AIGER: definitions and laws only.

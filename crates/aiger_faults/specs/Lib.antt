@@ -1,0 +1,2 @@
+-- A tree of names in work.
+pub mod Walks

@@ -1,0 +1,3 @@
+-- The laws of Import.
+pub mod PairRowLaws
+pub mod OutcomeLaws

@@ -1,0 +1,2 @@
+-- Numbers in a tree.
+pub mod Trees
