@@ -214,7 +214,7 @@ pub fn counted_lines() -> Vec<u8> {
 }
 
 /// As many entries as a tree of names may have.
-const WINDOW: usize = 6144;
+const WINDOW: usize = 12288;
 
 /// Long ways in every tree of names: each begins with variables that agree with 0 or 1 in their lowest
 /// bit, two bits, three and so on; the outputs, in the shortest lines there are, name these two.
