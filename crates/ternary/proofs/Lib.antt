@@ -1,4 +1,4 @@
--- The laws of the three-valued rules, of complements of codes, and of tables of codes.
+-- The laws of the three-valued rules, and of tables and formulas of codes.
 pub mod RuleLaws
-pub mod ComplementLaws
+pub mod FormulaLaws
 pub mod Tables

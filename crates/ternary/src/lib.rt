@@ -1,11 +1,9 @@
-// The three-valued gates over the codes 0, 1 and 2 (X): fixed tables for AND, XOR and MUX.
+// The three-valued gates over the codes 0, 1 and 2 (X): AND by arithmetic, fixed tables for XOR and MUX.
 ghost use mathlib.Core.Path.{_≡_};
 ghost use Prim.Native.Nat.{_<_};
 ghost use Rattle.ternary.specs.Ternary.{and3, xor3, mux3, codeOf, valueOf};
 
-// In AND and XOR the answer for the codes a and b is at 3 * a + b.
-const AND: [u8; 9] = [0, 0, 0, 0, 1, 2, 0, 2, 2];
-
+// The answer for the codes a and b is at 3 * a + b.
 const XOR: [u8; 9] = [0, 1, 2, 1, 0, 2, 2, 2, 2];
 
 // The answer for the selector s and the codes b and c is at 9 * s + 3 * b + c.
@@ -39,12 +37,13 @@ const MUX: [u8; 27] = [
     2,
 ];
 
+// The product of the codes, capped at 2.
 pub fn and_code(a: u8, b: u8) -> u8
     requires { ⌜ (a < 3) × (b < 3) ⌝ }
     ensures { λ r. ⌜ r ≡ codeOf (and3 (valueOf a) (valueOf b)) ⌝ }
 {
-    let index = (3 * a + b) as usize;
-    AND[index]
+    let product = a * b;
+    if product < 2 { product } else { 2 }
 }
 
 pub fn xor_code(a: u8, b: u8) -> u8

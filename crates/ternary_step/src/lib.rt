@@ -52,12 +52,13 @@ pub fn literal_value(work: &[u8], literal: usize) -> u8
     ternary::complement_code(inverted, value)
 }
 
+// The second operand is read first: so compiled, the step was measured to be quicker (docs/DECISIONS.md).
 fn and_value(work: &[u8], a: usize, b: usize) -> u8
     requires { ⌜ (a / 2 < mostOriginalRows) × ((b / 2 < mostOriginalRows) × Coded (now work)) ⌝ }
     ensures { λ r. ⌜ r ≡ codeOf (and3 (literalIn (now (work .entry)) a) (literalIn (now (work .entry)) b)) ⌝ }
 {
-    let x = literal_value(work, a);
     let y = literal_value(work, b);
+    let x = literal_value(work, a);
     ternary::and_code(x, y)
 }
 

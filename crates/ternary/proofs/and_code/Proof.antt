@@ -1,18 +1,18 @@
--- `and_code` meets its contract: the table of AND agrees with `and3`, by one test over its nine entries.
+-- `and_code` meets its contract: the product of the codes, capped at 2, agrees with `and3`, by one test over the nine pairs.
 -- Assumes nothing.
-use mathlib.Core.Path.{refl}
-use native.Mathlib.Omega.{arith}
 use borrow.Author.Needs.{needs}
-use Rattle.ternary.specs.Ternary.{and3}
-use Rattle.ternary.proofs.Tables.{agrees-pair}
+use Rattle.ternary.proofs.FormulaLaws.{below-cap, from-cap, product-agrees, product-small}
 use Rattle.ternary.proofs.and_code.Statement.{statement}
 use Rattle.ternary.proofs.and_code.Tie as tie
 
+mul-product : tie.Need-mul-product
+mul-product c = search (product-small, needs)
+
 returns : tie.Need-returns
-unfolding and3
-returns c = agrees-pair and3 _ refl (c .args .a) (c .args .b) (omega arith) (omega arith)
+returns c = search (below-cap, product-agrees, needs)
+
+returns-2 : tie.Need-returns-2
+returns-2 c = search (from-cap, product-agrees, needs)
 
 pub and-code-spec : {M : Type 1} → statement M
-and-code-spec =
-    tie.close
-    (tie.spec (λ c. search needs) (λ c. search needs) (λ c. search needs) (λ c. search needs) returns)
+and-code-spec = tie.close (tie.spec mul-product returns returns-2)
