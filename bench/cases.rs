@@ -19,6 +19,9 @@ pub enum Task {
     Fold { wish: u32 },
 }
 
+/// Makes a text.
+type Maker = Box<dyn FnOnce() -> Vec<u8>>;
+
 pub struct Case {
     pub name: String,
     /// The highest ratio that is aimed at.
@@ -29,7 +32,7 @@ pub struct Case {
     /// The file, or the text.
     file: Vec<u8>,
     /// What the text is made by, until it is there.
-    make: Option<fn() -> Vec<u8>>,
+    make: Option<Maker>,
     result: Vec<u8>,
     work: Vec<u8>,
     clocks: Vec<Clock>,
@@ -51,15 +54,15 @@ impl Case {
             task,
             file,
             make: None,
-            result: vec![0; 65_536],
-            work: vec![0; 49_152],
+            result: vec![0; 262_144],
+            work: vec![0; 196_608],
             clocks: vec![Clock { label: 0, period: 0, word: 0, ones: 0 }; 256],
         }
     }
 
     /// Of a text that is made when it is needed.
-    fn of_text(name: &str, target: f64, make: fn() -> Vec<u8>) -> Case {
-        Case { make: Some(make), ..Case::new(name, target, Task::Import, Vec::new()) }
+    fn of_text(name: &str, target: f64, make: impl FnOnce() -> Vec<u8> + 'static) -> Case {
+        Case { make: Some(Box::new(make)), ..Case::new(name, target, Task::Import, Vec::new()) }
     }
 
     /// Makes the text, before the first operation.
@@ -69,16 +72,29 @@ impl Case {
         }
     }
 
+    /// The bytes of result and work that the operation is lent. Work is what it asks for, and no more.
+    fn lent(&self) -> (usize, usize) {
+        match self.task {
+            Task::Sort => (self.file.len(), row_work(&self.file)),
+            Task::Import => (262_144, 196_608),
+            Task::Run { .. } => (262_144, row_work(&self.file)),
+            _ => (65_536, 49_152),
+        }
+    }
+
     /// Sorts the file naively, if it is to be sorted at all.
     pub fn once_naively(&mut self) -> Option<bool> {
+        let lent = self.lent();
         let Case { file, result, work, .. } = self;
         let Task::Sort = self.task else { return None };
-        Some(twin::sort_naively(file, &mut result[..file.len()], &mut work[..16_384]).is_ok())
+        Some(twin::sort_naively(file, &mut result[..lent.0], &mut work[..lent.1]).is_ok())
     }
 
     /// Does the operation once; answers whether it was done.
     pub fn once(&mut self, side: Side) -> bool {
+        let lent = self.lent();
         let Case { file, result, work, clocks, .. } = self;
+        let (result, work) = (&mut result[..lent.0], &mut work[..lent.1]);
         let ours = side == Side::Library;
         match &self.task {
             Task::Check if ours => library::check(file).is_ok(),
@@ -87,21 +103,28 @@ impl Case {
             Task::Count => twin::count(file).is_ok(),
             Task::Show { block } if ours => library::show(file, *block).is_ok(),
             Task::Show { block } => twin::show(file, *block).is_ok(),
-            Task::Sort if ours => {
-                library::sort(file, &mut result[..file.len()], &mut work[..16_384]).is_ok()
-            }
-            Task::Sort => twin::sort(file, &mut result[..file.len()], &mut work[..16_384]).is_ok(),
+            Task::Sort if ours => library::sort(file, result, work).is_ok(),
+            Task::Sort => twin::sort(file, result, work).is_ok(),
             Task::Import if ours => library::import(file, result, work).is_ok(),
             Task::Import => twin::import(file, result, work).is_ok(),
             Task::Run { steps, choices, inputs } if ours => {
-                library::run(file, *steps, choices, inputs, result, &mut work[..16_384]).is_ok()
+                library::run(file, *steps, choices, inputs, result, work).is_ok()
             }
             Task::Run { steps, choices, inputs } => {
-                twin::run(file, *steps, choices, inputs, result, &mut work[..16_384]).is_ok()
+                twin::run(file, *steps, choices, inputs, result, work).is_ok()
             }
             Task::Fold { wish } if ours => library::fold(file, *wish, result, work, clocks).is_ok(),
             Task::Fold { wish } => twin::fold(file, *wish, result, work, clocks).is_ok(),
         }
+    }
+}
+
+/// The work that Run and Sort ask for: a file of more than 8,064 rows has more than 65,536 bytes.
+pub fn row_work(file: &[u8]) -> usize {
+    if file.len() > 65_536 {
+        65_536
+    } else {
+        16_384
     }
 }
 
@@ -192,13 +215,30 @@ fn chain(all: usize) -> Vec<Row> {
     gates_alone(all, |i| row(3, 0, 2 * (i - 1) + 1, 2, 0))
 }
 
+/// Three literals for each row, of any nodes before it.
+fn earlier_literals(random: &mut Random, all: usize) -> impl Fn(usize) -> [usize; 3] {
+    let draws: Vec<usize> = (0..3 * all).map(|_| random.next() as usize >> 1).collect();
+    move |i| [0, 1, 2].map(|k| draws[3 * i + k] % (2 * i))
+}
+
 /// Gates that name any three earlier nodes, shuffled.
 fn shuffled_muxes(all: usize) -> Vec<Row> {
     let mut random = Random(7);
-    let draws: Vec<usize> = (0..3 * all).map(|_| random.next() as usize >> 1).collect();
-    let literal = |i: usize, k: usize| draws[3 * i + k] % (2 * i);
-    let rows = gates_alone(all, |i| row(5, 0, literal(i, 0), literal(i, 1), literal(i, 2)));
+    let literals = earlier_literals(&mut random, all);
+    let rows = gates_alone(all, |i| {
+        let [a, b, c] = literals(i);
+        row(5, 0, a, b, c)
+    });
     shuffled(&mut random, &rows)
+}
+
+/// Each gate names any two earlier nodes, and the one before it.
+fn mux_chain(all: usize) -> Vec<Row> {
+    let literals = earlier_literals(&mut Random(7), all);
+    gates_alone(all, |i| {
+        let [a, b, _] = literals(i);
+        row(5, 0, a, b, 2 * (i - 1))
+    })
 }
 
 /// The netlist with its gates in the places that `place` says, from 0 on.
@@ -213,6 +253,13 @@ fn placed(rows: &[Row], place: impl Fn(usize, usize) -> usize) -> Vec<Row> {
 /// The chain's gates stand at the end, at the front, and so on in turns towards the middle.
 fn in_turns(all: usize) -> Vec<Row> {
     placed(&chain(all), |i, gates| if i % 2 == 0 { gates - 1 - i / 2 } else { i / 2 })
+}
+
+/// The MUX chain's gates stand in the upper and in the lower half in turns, anywhere there: from those
+/// in the lower half the search for the next gate goes as far, in all, as it can.
+fn in_two_halves(all: usize) -> Vec<Row> {
+    let places = Random(19).two_halves(all - 3);
+    placed(&mux_chain(all), |i, _| places[i])
 }
 
 /// The last gate is named by all others.
@@ -230,49 +277,66 @@ fn loop_at_the_end(all: usize) -> Vec<Row> {
     rows
 }
 
-/// Sorts of files of 8,064 rows, and of one block.
-fn sort_cases() -> Vec<Case> {
-    let all = 8064;
+/// Files of so many rows to be sorted.
+fn sorted_files(all: usize) -> [(&'static str, Vec<u8>); 5] {
     let reversed = placed(&chain(all), |i, gates| gates - 1 - i);
-    let long = [
-        ("in order", random_file(8000, 64)),
+    [
+        ("in order", random_file(all - 64, 64)),
         ("shuffled MUXes", encode(&shuffled_muxes(all))),
         ("reversed chain", encode(&reversed)),
         ("chain in turns", encode(&in_turns(all))),
-        ("one feeds all", encode(&feeding_all(all))),
-        ("loop at the end", encode(&loop_at_the_end(all))),
+        ("MUXes in two halves", encode(&in_two_halves(all))),
+    ]
+}
+
+/// Sorts of files of 8,064 rows, of one block, and of as many rows as a file may have.
+fn sort_cases() -> Vec<Case> {
+    let case = |name: String, file: Vec<u8>, most: f64| Case {
+        most: Some(most),
+        ..Case::new(&name, 1.5, Task::Sort, file)
+    };
+    let more = [
+        ("one feeds all", encode(&feeding_all(8064))),
+        ("loop at the end", encode(&loop_at_the_end(8064))),
     ];
-    let mut cases: Vec<Case> = long
-        .into_iter()
-        .map(|(name, file)| {
-            let mut case = Case::new(&format!("Sort, {name}"), 1.5, Task::Sort, file);
-            case.most = Some(4000.0);
-            case
-        })
-        .collect();
-    cases.push(Case::new("Sort, 63 rows", 3.0, Task::Sort, encode(&shuffled_muxes(63))));
-    cases
+    let small = sorted_files(8064).into_iter().chain(more);
+    let small = small.map(|(name, file)| case(format!("Sort, {name}"), file, 4000.0));
+    let block = Case::new("Sort, 63 rows", 3.0, Task::Sort, encode(&shuffled_muxes(63)));
+    let large = sorted_files(32_256)
+        .map(|(name, file)| case(format!("Sort 32256 rows, {name}"), file, 60_000.0));
+    small.chain([block]).chain(large).collect()
 }
 
-/// A text of as many rows as a file may have.
-fn whole_text(style: Style) -> Vec<u8> {
-    texts::text_of(10, 8064, style)
-}
-
-/// Imports of texts of 8,064 rows, of one block, and of more rows than a file may have.
-fn import_cases() -> Vec<Case> {
+/// Imports of texts of so many rows; names begin with `name`.
+fn imports_of(name: &str, rows: usize) -> Vec<Case> {
+    let case = |text: &str, target: f64, make: fn(usize) -> Vec<u8>| {
+        Case::of_text(&format!("{name}, {text}"), target, move || make(rows))
+    };
+    let styled = |text: &str, target: f64, style: Style| {
+        Case::of_text(&format!("{name}, {text}"), target, move || texts::text_of(10, rows, style))
+    };
     vec![
-        Case::of_text("Import, counting up", 2.0, || whole_text(Style::CountingUp)),
-        Case::of_text("Import, gaps", 8.0, || whole_text(Style::Gaps)),
-        Case::of_text("Import, shuffled", 8.0, || whole_text(Style::Shuffled)),
-        Case::of_text("Import, sparse, descending", 8.0, || whole_text(Style::Descending)),
-        Case::of_text("Import, low bits agree", 8.0, || whole_text(Style::LowBitsAgree)),
-        Case::of_text("Import, shuffled latches", 8.0, || texts::shuffled_latches(8064)),
-        Case::of_text("Import, reversed chain", 8.0, || texts::reversed_chain(8064)),
+        styled("counting up", 2.0, Style::CountingUp),
+        styled("gaps", 8.0, Style::Gaps),
+        styled("shuffled", 8.0, Style::Shuffled),
+        styled("sparse, descending", 8.0, Style::Descending),
+        styled("low bits agree", 8.0, Style::LowBitsAgree),
+        case("shuffled latches", 8.0, texts::shuffled_latches),
+        case("reversed chain", 8.0, texts::reversed_chain),
+        case("chain in two halves", 8.0, texts::chain_in_two_halves),
+    ]
+}
+
+/// Imports of texts of 8,064 rows, of one block, of more rows than a file may have, and of as many.
+fn import_cases() -> Vec<Case> {
+    let mut cases = imports_of("Import", 8064);
+    cases.extend([
         Case::of_text("Import, 63 rows", 3.0, || texts::text_of(10, 63, Style::CountingUp)),
         Case::of_text("Import, 63 shuffled rows", 3.0, || texts::text_of(10, 63, Style::Shuffled)),
         Case::of_text("Import, 100,000 gates", 2.0, || texts::many_gates(100_000)),
-    ]
+    ]);
+    cases.extend(imports_of("Import 32256 rows", 32_256));
+    cases
 }
 
 /// Texts of about 1 MB that are refused.
@@ -315,14 +379,20 @@ pub fn wish_of(design: &str) -> u32 {
 }
 
 pub fn all_cases(designs: &[(String, Vec<u8>)]) -> Vec<Case> {
-    let (whole, block) = (random_file(8000, 64), random_file(60, 3));
+    let [whole, middle, block] =
+        [(32_192, 64), (8000, 64), (60, 3)].map(|(nodes, outputs)| random_file(nodes, outputs));
     let mut cases = vec![
-        Case::new("Check, 8064 rows", 1.5, Task::Check, whole.clone()),
+        Case::new("Check, 32256 rows", 1.5, Task::Check, whole.clone()),
+        Case::new("Check, 8064 rows", 1.5, Task::Check, middle.clone()),
         Case::new("Check, 63 rows", 3.0, Task::Check, block.clone()),
-        Case::new("Count, 8064 rows", 0.0, Task::Count, whole.clone()),
+        Case::new("Count, 32256 rows", 0.0, Task::Count, whole.clone()),
+        Case::new("Count, 8064 rows", 0.0, Task::Count, middle.clone()),
         Case::new("Count, 63 rows", 0.0, Task::Count, block.clone()),
-        Case::new("Show, 8064 rows", 0.0, Task::Show { block: 127 }, whole),
+        Case::new("Show, 32256 rows", 0.0, Task::Show { block: 511 }, whole),
+        Case::new("Show, 8064 rows", 0.0, Task::Show { block: 127 }, middle),
         Case::new("Show, 63 rows", 0.0, Task::Show { block: 0 }, block),
+        run_case(32_192, 64, 64, 0.0),
+        run_case(8000, 64, 64, 0.0),
         run_case(1000, 8, 4096, 1.2),
         run_case(60, 3, 1, 0.0),
     ];

@@ -1,12 +1,13 @@
 //! Compares the library's answers, and all memory lent to it, with the twin's.
 
+use crate::cases::{measured_texts, row_work};
 use crate::netlist::{
     constant, damage, encode, input, output, random_netlist, random_shape, redrawn, register, row,
-    shuffled, Random, Shape,
+    shuffled, Random,
 };
-use crate::texts::random_text;
+use crate::texts::{random_text, text_of, STYLES};
 use crate::twin::{Clock, Folded, Refusal};
-use crate::{cases, library, twin};
+use crate::{edges, library, twin};
 
 /// What was compared: how often the twin answered each number, 0 for success, and how often the
 /// library differed.
@@ -44,6 +45,16 @@ impl Tally {
     }
 }
 
+/// The most rows of a file: mostly `few`, but one time in `seldom` more, and one in five of these as
+/// many as a file may have.
+fn most_rows(random: &mut Random, seldom: usize, few: usize) -> usize {
+    match random.below(5 * seldom) {
+        0 => 32_256,
+        1..=4 => 8064,
+        _ => few,
+    }
+}
+
 /// A file of at most `most` rows, sound or damaged.
 fn random_file(random: &mut Random, most: usize, phases: bool) -> Vec<u8> {
     let shape = random_shape(random, most, phases);
@@ -53,14 +64,6 @@ fn random_file(random: &mut Random, most: usize, phases: bool) -> Vec<u8> {
     } else {
         file
     }
-}
-
-/// Files of lengths 0, 511, 65,536 and 66,048; the third is sound.
-fn edge_files(random: &mut Random) -> [Vec<u8>; 4] {
-    let shape = Shape { nodes: 8063, outputs: 1, registers: 3, inputs: 3, phases: true, rings: 4 };
-    let whole = encode(&random_netlist(random, shape));
-    let longer = [&whole[..], &[0; 512]].concat();
-    [vec![], vec![0; 511], whole, longer]
 }
 
 /// Check, Count and Show; of the blocks the last two are shown, and the first that is missing.
@@ -79,22 +82,46 @@ fn compare_checks(files: usize) -> [Tally; 3] {
             shows.add(&other, same, || format!("Show {ours:?}, twin {other:?}, block {block}"));
         }
     };
-    for file in edge_files(&mut random) {
-        compare(&file);
-    }
+    edges::make_files(&mut random, &mut compare);
     for _ in 0..files {
-        let most = if random.one_in(20) { 8064 } else { 600 };
+        let most = most_rows(&mut random, 20, 600);
         compare(&random_file(&mut random, most, true));
     }
     [checks, counts, shows]
 }
 
-/// Sort of files whose nodes stand in any order, also by the naive sorter; some have loops.
+/// Work about both lengths that Run and Sort ask for.
+const WORKS: [usize; 4] = [16_383, 16_384, 65_535, 65_536];
+
+/// Sort, also by the naive sorter; result and work of so many bytes.
+fn compare_sort(tally: &mut Tally, file: &[u8], result: usize, work: usize) {
+    let [mut mine, mut others, mut naive] = [(); 3].map(|_| (vec![0xA5; result], vec![0x5A; work]));
+    let ours = library::sort(file, &mut mine.0, &mut mine.1);
+    let other = twin::sort(file, &mut others.0, &mut others.1);
+    let third = twin::sort_naively(file, &mut naive.0, &mut naive.1);
+    let same = ours == other && mine == others && other == third && others == naive;
+    tally.add(&other, same, || {
+        let parts = [mine.0 == others.0, mine.1 == others.1, others == naive];
+        format!(
+            "Sort {ours:?}, twin {other:?}, naive {third:?}; result, work, naive same: {parts:?}"
+        )
+    });
+}
+
+/// Sort of files whose nodes stand in any order; some have loops.
 fn compare_sorts(files: usize) -> Tally {
     let mut random = Random(6);
     let mut tally = Tally::default();
+    for rows in [8064, 8065, 16_128, 16_129, 32_256] {
+        let netlist = edges::netlist_of(&mut random, rows);
+        let file = encode(&shuffled(&mut random, &netlist));
+        for work in WORKS {
+            compare_sort(&mut tally, &file, file.len(), work);
+        }
+        compare_sort(&mut tally, &file, file.len() - 1, 65_536);
+    }
     for _ in 0..files {
-        let most = if random.one_in(40) { 8064 } else { 600 };
+        let most = most_rows(&mut random, 40, 600);
         let shape = random_shape(&mut random, most, true);
         let rows = random_netlist(&mut random, shape);
         let mixed = shuffled(&mut random, &rows);
@@ -102,44 +129,46 @@ fn compare_sorts(files: usize) -> Tally {
         if random.one_in(4) {
             file = damage(&file, &mut random);
         }
-        let result = vec![0xA5; nearly(&mut random, file.len()) + 100 * random.below(2)];
-        let work = vec![0x5A; nearly(&mut random, 16_384)];
-        let [mut mine, mut others, mut naive] = [(); 3].map(|_| (result.clone(), work.clone()));
-        let ours = library::sort(&file, &mut mine.0, &mut mine.1);
-        let other = twin::sort(&file, &mut others.0, &mut others.1);
-        let third = twin::sort_naively(&file, &mut naive.0, &mut naive.1);
-        let same = ours == other && mine == others && other == third && others == naive;
-        tally.add(&other, same, || {
-            let parts = [mine.0 == others.0, mine.1 == others.1, others == naive];
-            format!(
-                "Sort {ours:?}, twin {other:?}, naive {third:?}; result, work, naive same: {parts:?}"
-            )
-        });
+        let result = nearly(&mut random, file.len()) + 100 * random.below(2);
+        let work = nearly(&mut random, row_work(&file));
+        compare_sort(&mut tally, &file, result, work);
     }
     tally
 }
 
-/// Import of the measured texts and of random ones.
+/// Result and work of so many bytes.
+fn compare_import(tally: &mut Tally, text: &[u8], result: usize, work: usize) {
+    let [mut mine, mut others] = [(); 2].map(|_| (vec![0xA5; result], vec![0x5A; work]));
+    let ours = library::import(text, &mut mine.0, &mut mine.1);
+    let other = twin::import(text, &mut others.0, &mut others.1);
+    tally.add(&other, ours == other && mine == others, || {
+        let parts = [mine.0 == others.0, mine.1 == others.1];
+        format!("Import {ours:?}, twin {other:?}; result, work same: {parts:?}")
+    });
+}
+
+/// Import of the measured texts, of texts of about as many rows as a file may have, and of random ones.
 fn compare_imports(texts: usize) -> Tally {
     let mut random = Random(15);
     let mut tally = Tally::default();
-    let mut compare = |random: &mut Random, text: &[u8]| {
-        let result = vec![0xA5; nearly(random, 65_536)];
-        let work = vec![0x5A; nearly(random, 49_152)];
-        let [mut mine, mut others] = [(result.clone(), work.clone()), (result, work)];
-        let ours = library::import(text, &mut mine.0, &mut mine.1);
-        let other = twin::import(text, &mut others.0, &mut others.1);
-        tally.add(&other, ours == other && mine == others, || {
-            let parts = [mine.0 == others.0, mine.1 == others.1];
-            format!("Import {ours:?}, twin {other:?}; result, work same: {parts:?}")
-        });
-    };
-    for text in cases::measured_texts() {
-        compare(&mut random, &text);
+    for text in measured_texts() {
+        compare_import(&mut tally, &text, 262_144, 196_608);
+    }
+    for rows in 32_255..=32_257 {
+        for style in STYLES {
+            compare_import(&mut tally, &text_of(20, rows, style), 262_144, 196_608);
+        }
+    }
+    for result in [65_536, 262_143, 262_144] {
+        for work in [49_152, 196_607, 196_608] {
+            compare_import(&mut tally, b"aag 0 0 0 1 0\n0\n", result, work);
+        }
     }
     for _ in 0..texts {
         let text = random_text(&mut random);
-        compare(&mut random, &text);
+        let result = nearly(&mut random, 262_144);
+        let work = nearly(&mut random, 196_608);
+        compare_import(&mut tally, &text, result, work);
     }
     tally
 }
@@ -162,28 +191,58 @@ fn values(random: &mut Random, length: usize) -> Vec<u8> {
     values
 }
 
+/// What Run is called with, apart from result and work.
+struct Given<'a> {
+    file: &'a [u8],
+    steps: usize,
+    choices: Vec<u8>,
+    inputs: Vec<u8>,
+}
+
+/// Result and work of so many bytes.
+fn compare_run(tally: &mut Tally, given: &Given, result: usize, work: usize) {
+    let Given { file, steps, choices, inputs } = given;
+    let [mut mine, mut others] = [(); 2].map(|_| (vec![0xA5; result], vec![0x5A; work]));
+    let ours = library::run(file, *steps as u32, choices, inputs, &mut mine.0, &mut mine.1);
+    let other = twin::run(file, *steps as u32, choices, inputs, &mut others.0, &mut others.1);
+    tally.add(&other, ours == other && mine == others, || {
+        let parts = [mine.0 == others.0, mine.1 == others.1];
+        format!("Run {ours:?}, twin {other:?}, {steps} steps; result, work same: {parts:?}")
+    });
+}
+
+/// Unknown registers, inputs and outputs; one of each where the file is refused.
+fn value_counts(file: &[u8]) -> [usize; 3] {
+    match twin::count(file) {
+        Ok(counts) => [counts.unknown, counts.inputs, counts.outputs].map(|n| n as usize),
+        Err(_) => [1, 1, 1],
+    }
+}
+
 fn compare_runs(files: usize) -> Tally {
     let mut random = Random(2);
     let mut tally = Tally::default();
+    for rows in [8064, 8065, 32_256] {
+        let file = &encode(&edges::netlist_of(&mut random, rows));
+        let [unknown, inputs, outputs] = value_counts(file);
+        let (choices, inputs) = (random.bits(unknown), random.bits(5 * inputs));
+        let given = Given { file, steps: 5, choices, inputs };
+        for work in WORKS {
+            compare_run(&mut tally, &given, 5 * outputs, work);
+        }
+        compare_run(&mut tally, &given, 5 * outputs - 1, 65_536);
+    }
     for _ in 0..files {
-        let file = random_file(&mut random, 400, true);
-        let [unknown, inputs, outputs] = match twin::count(&file) {
-            Ok(counts) => [counts.unknown, counts.inputs, counts.outputs].map(|n| n as usize),
-            Err(_) => [1, 1, 1],
-        };
-        let steps = if random.one_in(40) { 4096 + random.below(2) } else { random.below(20) };
+        let most = most_rows(&mut random, 20, 400);
+        let file = &random_file(&mut random, most, true);
+        let [unknown, inputs, outputs] = value_counts(file);
+        let long = most == 400 && random.one_in(40);
+        let steps = if long { 4096 + random.below(2) } else { random.below(20) };
         let choices = values(&mut random, unknown);
-        let given = values(&mut random, steps * inputs);
-        let result = vec![0xA5; nearly(&mut random, steps * outputs)];
-        let work = vec![0x5A; nearly(&mut random, 16_384)];
-        let [mut mine, mut others] = [(result.clone(), work.clone()), (result, work)];
-        let ours = library::run(&file, steps as u32, &choices, &given, &mut mine.0, &mut mine.1);
-        let other = twin::run(&file, steps as u32, &choices, &given, &mut others.0, &mut others.1);
-        let same = ours == other && mine == others;
-        tally.add(&other, same, || {
-            let parts = [mine.0 == others.0, mine.1 == others.1];
-            format!("Run {ours:?}, twin {other:?}, {steps} steps; result, work same: {parts:?}")
-        });
+        let inputs = values(&mut random, steps * inputs);
+        let result = nearly(&mut random, steps * outputs);
+        let work = nearly(&mut random, row_work(file));
+        compare_run(&mut tally, &Given { file, steps, choices, inputs }, result, work);
     }
     tally
 }
@@ -212,6 +271,10 @@ fn compare_folds(files: usize, designs: &[(String, Vec<u8>)]) -> Tally {
         for wish in 0..=9 {
             compare_fold(&mut tally, &mut random, file, wish);
         }
+    }
+    for rows in [8065, 32_256, 32_257] {
+        let file = encode(&edges::netlist_of(&mut random, rows));
+        compare_fold(&mut tally, &mut random, &file, 0);
     }
     for _ in 0..files {
         let most = if random.one_in(8) { 1300 } else { 400 };

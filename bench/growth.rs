@@ -8,13 +8,14 @@ use crate::netlist::{
 use crate::texts::{text_of, Style};
 use crate::twin::Clock;
 
-/// The smallest netlist there is, then ten times as many rows, up to Fold's limit and the file's.
-const SIZES: [usize; 5] = [2, 10, 100, 1008, 8064];
+/// The smallest netlist there is, then ten times as many rows, up to Fold's limit; then the most rows
+/// for which Run and Sort ask for 16,384 bytes of work, and the file's limit.
+const SIZES: [usize; 6] = [2, 10, 100, 1008, 8064, 32_256];
 const MOST_FOLDED: usize = 1008;
 const STEPS: u32 = 64;
 
 /// Rows of texts; those of the last two fit no file, and are refused for that alone.
-const TEXT_SIZES: [usize; 6] = [10, 100, 1008, 8064, 40_000, 200_000];
+const TEXT_SIZES: [usize; 7] = [10, 100, 1008, 8064, 32_256, 40_000, 200_000];
 
 /// Literal of the clock, row 1.
 const CLOCK: usize = 2;

@@ -13,6 +13,7 @@ mod abc;
 mod aiger;
 mod cases;
 mod compare;
+mod edges;
 mod growth;
 mod library;
 mod netlist;
@@ -77,31 +78,34 @@ fn verdict(case: &Case, ours: f64, ratio: f64) -> String {
     ratio.into_iter().chain(time).map(told).collect::<Vec<_>>().join(", ")
 }
 
-/// The best of three times of the naive sorter, and how often the library's time that is.
+/// Microseconds of the naive sorter, if the file is to be sorted.
+fn time_naively(case: &mut Case) -> Option<f64> {
+    let start = Instant::now();
+    black_box(case.once_naively()?);
+    Some(start.elapsed().as_secs_f64() * 1e6)
+}
+
+/// The best of four times of the naive sorter, of slow ones the only time, and how often the library's
+/// time that is.
 fn print_naive(cases: &mut [(Case, f64)]) {
-    println!("{:28} {:>11} {:>11} {:>6}", "", "library µs", "naive µs", "factor");
+    println!("{:38} {:>11} {:>11} {:>6}", "", "library µs", "naive µs", "factor");
     for (case, ours) in cases {
-        if case.once_naively().is_none() {
-            continue;
+        let Some(mut naive) = time_naively(case) else { continue };
+        if naive < 1e5 {
+            naive = (0..3).filter_map(|_| time_naively(case)).fold(naive, f64::min);
         }
-        let timed = (0..3).map(|_| {
-            let start = Instant::now();
-            black_box(case.once_naively());
-            start.elapsed().as_secs_f64() * 1e6
-        });
-        let naive = timed.fold(f64::MAX, f64::min);
-        println!("{:28} {ours:11.2} {naive:11.2} {:6.1}", case.name, naive / *ours);
+        println!("{:38} {ours:11.2} {naive:11.2} {:6.1}", case.name, naive / *ours);
     }
 }
 
 fn print_table(cases: Vec<Case>) {
-    println!("{:28} {:>11} {:>11} {:>6}  target", "", "library µs", "twin µs", "ratio");
+    println!("{:38} {:>11} {:>11} {:>6}  target", "", "library µs", "twin µs", "ratio");
     let mut timed = Vec::new();
     for mut case in cases {
         let (ours, twin) = best_times(&mut case);
         let ratio = ours / twin;
         println!(
-            "{:28} {ours:11.2} {twin:11.2} {ratio:6.2}  {}",
+            "{:38} {ours:11.2} {twin:11.2} {ratio:6.2}  {}",
             case.name,
             verdict(&case, ours, ratio)
         );

@@ -43,7 +43,7 @@ pub fn encode(rows: &[Row]) -> Vec<u8> {
     let mut file = vec![0u8; 512 * blocks];
     for (index, (block, rows)) in file.chunks_exact_mut(512).zip(rows.chunks(63)).enumerate() {
         block[0] = if index + 1 == blocks { 2 } else { 1 };
-        block[1] = index as u8;
+        [block[1], block[3]] = (index as u16).to_le_bytes();
         block[2] = rows.len() as u8;
         for (place, row) in block[4..].chunks_exact_mut(8).zip(rows) {
             place[0] = row.kind;
@@ -88,6 +88,21 @@ impl Random {
 
     pub fn bits(&mut self, count: usize) -> Vec<u8> {
         (0..count).map(|_| self.below(2) as u8).collect()
+    }
+
+    pub fn shuffle<T>(&mut self, list: &mut [T]) {
+        for at in 1..list.len() {
+            list.swap(at, self.below(at + 1));
+        }
+    }
+
+    /// The numbers below `count`, one of the upper half and one of the lower in turns, each half shuffled.
+    pub fn two_halves(&mut self, count: usize) -> Vec<usize> {
+        let mut numbers: Vec<usize> = (0..count).collect();
+        let (lower, upper) = numbers.split_at_mut(count / 2);
+        self.shuffle(lower);
+        self.shuffle(upper);
+        (0..count).map(|at| if at % 2 == 0 { upper[at / 2] } else { lower[at / 2] }).collect()
     }
 }
 
@@ -167,10 +182,10 @@ impl Names {
     }
 }
 
-/// A netlist that Check accepts, if it has an output.
+/// A netlist that Check accepts, if it has an output. Labels count up from any number, modulo 65,536.
 pub fn random_netlist(random: &mut Random, shape: Shape) -> Vec<Row> {
     let mut rows = vec![constant()];
-    let base = random.below(57_000);
+    let base = random.below(65_536);
     let mut register_label = base;
     let mut names = Names { base, phases: shape.phases, given: [0; 7] };
     for _ in 0..shape.rings {
@@ -290,14 +305,22 @@ fn change_row(file: &mut [u8], random: &mut Random) {
     seal(&mut file[512 * block..512 * block + 512]);
 }
 
+pub fn exchange_blocks(file: &mut [u8], one: usize, other: usize) {
+    for at in 0..512 {
+        file.swap(512 * one + at, 512 * other + at);
+    }
+}
+
 fn change_frame(file: &mut [u8], random: &mut Random) {
-    let block = random.below(file.len() / 512);
+    let blocks = file.len() / 512;
+    let block = random.below(blocks);
     let start = 512 * block;
-    match random.below(4) {
+    match random.below(5) {
         0 => file[start + random.below(4)] = random.below(4) as u8,
         1 => file[start + 2] = random.below(70) as u8,
         2 => file[start + 4 + random.below(504)] ^= 1 << random.below(8),
-        _ => file[start + 500 + random.below(12)] ^= 1,
+        3 => file[start + 500 + random.below(12)] ^= 1,
+        _ => exchange_blocks(file, block, random.below(blocks)),
     }
     if !random.one_in(3) {
         seal(&mut file[start..start + 512]);

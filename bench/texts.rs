@@ -49,12 +49,6 @@ pub fn random_aiger(random: &mut Random, counts: Counts) -> Aiger {
     }
 }
 
-fn shuffle<T>(random: &mut Random, list: &mut [T]) {
-    for at in 1..list.len() {
-        list.swap(at, random.below(at + 1));
-    }
-}
-
 /// How the variables of the nodes are chosen.
 #[derive(Clone, Copy)]
 pub enum Style {
@@ -95,7 +89,7 @@ pub fn variables(random: &mut Random, style: Style, nodes: usize) -> Vec<usize> 
     match style {
         Style::CountingUp => {}
         Style::Gaps => list.iter_mut().for_each(|variable| *variable *= 3),
-        Style::Shuffled => shuffle(random, &mut list),
+        Style::Shuffled => random.shuffle(&mut list),
         Style::Descending => {
             list = any_variables(random, nodes - 1);
             list.sort_unstable_by(|a, b| b.cmp(a));
@@ -103,10 +97,10 @@ pub fn variables(random: &mut Random, style: Style, nodes: usize) -> Vec<usize> 
         Style::Sparse => list = any_variables(random, nodes - 1),
         Style::LowBitsAgree => {
             let step = 1 << (LARGEST / nodes).ilog2();
-            shuffle(random, &mut list);
+            random.shuffle(&mut list);
             list.iter_mut().for_each(|variable| *variable *= step);
         }
-        Style::HalfShuffled => shuffle(random, &mut list[nodes / 2..]),
+        Style::HalfShuffled => random.shuffle(&mut list[nodes / 2..]),
     }
     list.insert(0, 0);
     list
@@ -138,6 +132,22 @@ pub fn reversed_chain(rows: usize) -> Vec<u8> {
     let aiger = Aiger { inputs: 1, latches: Vec::new(), outputs: vec![4], ands };
     let variables: Vec<usize> = [0, 1].into_iter().chain((2..gates + 2).rev()).collect();
     write_text(&aiger, &variables)
+}
+
+/// A chain of gates whose lines stand in the upper and in the lower half in turns, anywhere there; each
+/// also names any earlier gate, and the variables agree in their lowest bits.
+pub fn chain_in_two_halves(rows: usize) -> Vec<u8> {
+    let gates = rows - 3;
+    let mut random = Random(21);
+    let places = random.two_halves(gates);
+    let node = |at: usize| if at == 0 { 1 } else { 2 + places[at - 1] };
+    let mut ands = vec![(0, 0); gates];
+    for (at, &place) in places.iter().enumerate() {
+        ands[place] = (2 * node(random.below(at + 1)), 2 * node(at) + 1);
+    }
+    let outputs = vec![2 * node(gates)];
+    let variables = variables(&mut random, Style::LowBitsAgree, gates + 2);
+    write_text(&Aiger { inputs: 1, latches: Vec::new(), outputs, ands }, &variables)
 }
 
 /// Gates that count up.
@@ -214,12 +224,12 @@ pub fn counted_lines() -> Vec<u8> {
 }
 
 /// As many entries as a tree of names may have.
-const WINDOW: usize = 12288;
+const WINDOW: usize = 49_152;
 
 /// Long ways in every tree of names: each begins with variables that agree with 0 or 1 in their lowest
 /// bit, two bits, three and so on; the outputs, in the shortest lines there are, name these two.
 pub fn longest_ways() -> Vec<u8> {
-    let (inputs, outputs) = (77_000, 265_000);
+    let (inputs, outputs) = (WINDOW + 100, 378_000);
     let mut seen = HashSet::from([0, 1]);
     let mut path = |window: usize| -> Vec<usize> {
         let all = (0..62).map(|at| ((2 * window + 1) << (at / 2)) ^ (at % 2));
@@ -246,7 +256,7 @@ pub fn longest_ways() -> Vec<u8> {
 fn mix_gates(random: &mut Random, aiger: &mut Aiger) {
     let first = 1 + aiger.inputs + aiger.latches.len();
     let mut places: Vec<usize> = (0..aiger.ands.len()).collect();
-    shuffle(random, &mut places);
+    random.shuffle(&mut places);
     let moved = |literal: &mut usize| {
         if *literal / 2 >= first {
             *literal = 2 * (first + places[*literal / 2 - first]) + *literal % 2;
@@ -299,9 +309,13 @@ fn lower_maximum(random: &mut Random, text: &mut Vec<u8>) {
     text.splice(4..end, most.saturating_sub(1 + random.below(2)).to_string().bytes());
 }
 
-/// A text of some rows, or of about as many as a file has, or more; right or not.
+/// A text of some rows, of some thousands, or of about as many as a file has, or more; right or not.
 pub fn random_text(random: &mut Random) -> Vec<u8> {
-    let most = if random.one_in(40) { 5000 } else { 20 };
+    let most = match random.below(400) {
+        0 => 16_000,
+        1..=9 => 5000,
+        _ => 20,
+    };
     let mut count = || random.below(most);
     let counts = Counts { inputs: count(), latches: count(), outputs: 1 + count(), gates: count() };
     let mut nodes = counts.nodes();

@@ -40,8 +40,9 @@ pub struct Clock {
 }
 
 const BLOCK: usize = 512;
-const MOST_BYTES: usize = 65_536;
 const ROWS_A_BLOCK: usize = 63;
+const MOST_BYTES: usize = 262_144;
+const MOST_ROWS: usize = 32_256;
 
 const CONSTANT: u8 = 0;
 const INPUT: u8 = 1;
@@ -106,7 +107,8 @@ fn check_block(block: &[u8], index: usize, last: bool) -> Result<(), Refusal> {
     if word_sum(block) != u32::MAX {
         return refuse(2, index);
     }
-    if block[0] != if last { 2 } else { 1 } || block[1] as usize != index || block[3] != 0 {
+    let number = u16::from_le_bytes([block[1], block[3]]);
+    if block[0] != if last { 2 } else { 1 } || usize::from(number) != index {
         return refuse(3, index);
     }
     let rows = block[2] as usize;
@@ -300,6 +302,15 @@ fn places(rows: &[Row], kind: u8) -> Vec<usize> {
     (0..rows.len()).filter(|&i| rows[i].kind == kind).collect()
 }
 
+/// The work that Run and Sort ask for, by the file's rows.
+fn least_work(rows: usize) -> usize {
+    if rows > 8064 {
+        65_536
+    } else {
+        16_384
+    }
+}
+
 /// Questions 17 to 20.
 fn run_questions(
     counts: Counts,
@@ -318,7 +329,8 @@ fn run_questions(
     if choices.iter().chain(inputs).any(|&v| v > 1) {
         return refuse(19, 0);
     }
-    if result < steps * counts.outputs as usize || work < 16_384 {
+    let rows = (counts.nodes + counts.outputs) as usize;
+    if result < steps * counts.outputs as usize || work < least_work(rows) {
         return refuse(20, 0);
     }
     Ok(())
@@ -687,7 +699,7 @@ fn write_file(rows: &[Row], result: &mut [u8]) {
         result.chunks_exact_mut(BLOCK).zip(rows.chunks(ROWS_A_BLOCK)).enumerate()
     {
         block[0] = if index + 1 == blocks { 2 } else { 1 };
-        block[1] = index as u8;
+        [block[1], block[3]] = (index as u16).to_le_bytes();
         block[2] = rows.len() as u8;
         for (bytes, &row) in block[4..].chunks_exact_mut(8).zip(rows) {
             write_row(bytes, row);
@@ -725,7 +737,7 @@ fn fold_questions(
     if wish > 8 {
         return refuse(14, 0);
     }
-    if result < MOST_BYTES || work < 49_152 || clocks < 256 {
+    if result < 65_536 || work < 49_152 || clocks < 256 {
         return refuse(15, 0);
     }
     Ok(())
@@ -933,7 +945,7 @@ fn move_rows(rows: &[Row], numbers: &[u16]) -> Vec<Row> {
 /// Questions 1 to 10 for gates in any order, and 23; then the rows.
 fn sort_questions(file: &[u8], result: usize, work: usize) -> Result<Vec<Row>, Refusal> {
     check_file(file, Gates::InAnyOrder)?;
-    if result < file.len() || work < 16_384 {
+    if result < file.len() || work < least_work(row_count(file)) {
         return refuse(23, 0);
     }
     Ok(decode_rows(file))
@@ -1135,12 +1147,12 @@ fn rows_of(lists: &Lists) -> Vec<Row> {
 /// Questions 23, 24, 25 and 22.
 pub fn import(text: &[u8], result: &mut [u8], work: &mut [u8]) -> Result<u32, Refusal> {
     work.fill(0);
-    if result.len() < MOST_BYTES || work.len() < 49_152 {
+    if result.len() < 262_144 || work.len() < 196_608 {
         return refuse(23, 0);
     }
     let Some(lists) = read_text(text) else { return refuse(24, 0) };
     let nodes = 1 + lists.inputs + lists.latches.len() + lists.gates.len();
-    if nodes + lists.outputs.len() > MOST_BYTES / BLOCK * ROWS_A_BLOCK {
+    if nodes + lists.outputs.len() > MOST_ROWS {
         return refuse(25, 0);
     }
     write_sorted(&rows_of(&lists), result)

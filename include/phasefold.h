@@ -1,18 +1,18 @@
 /* phasefold: checks, counts, shows, sorts, folds and runs netlist files, and imports AIGER texts.
  *
  * A slice is a pointer and its length. With length 0 the pointer may be NULL; else it is not. All
- * memory is lent by the caller: nothing is allocated, and nothing is kept after the return. A part that is written, `result`, `work` or `clocks`, overlaps no other part
- * of the same call. This is not tested: with parts that overlap, pf_fold has left a wrong netlist and
- * answered number 0.
+ * memory is lent by the caller: nothing is allocated, and nothing is kept after the return. A part that
+ * is written, `result`, `work` or `clocks`, overlaps no other part of the same call. This is not tested:
+ * with parts that overlap, pf_fold has left a wrong netlist and answered number 0.
  *
  * Every answer starts with a refusal: the number of the question whose answer was no, and its place
  * (a block for numbers 2 to 5, a row for 6 to 9, 13 and 22, else 0). Both are 0 on success; the answer's
  * other fields are 0 on a refusal. A refusal changes no lent memory but `work`, which is all zero
  * after every return.
  *
- * A call needs about 144 KiB of stack (measured by `bench/run --stack`; no theorem bounds it). Several
- * threads may call at the same time, as long as nobody else uses what a call writes. The static
- * library is for x86-64 Linux. docs/example.c is a whole program.
+ * A call needs about 150 KiB of stack, pf_import about 400 KiB (`bench/run --stack` measures it; no
+ * theorem bounds it). Several threads may call at the same time, as long as nobody else uses what a call
+ * writes. The static library is for x86-64 Linux. docs/example.c is a whole program.
  */
 #ifndef PHASEFOLD_H
 #define PHASEFOLD_H
@@ -21,12 +21,12 @@
 #include <stdint.h>
 
 /* Another number for every change of this interface. */
-#define PF_VERSION 3
+#define PF_VERSION 4
 
 /* A block's bytes and rows, and the bytes of the longest file. */
 #define PF_BLOCK_SIZE 512
 #define PF_BLOCK_ROWS 63
-#define PF_FILE_MAX 65536
+#define PF_FILE_MAX 262144
 
 /* The bytes of a file of so many rows, as of the folded file from `after`. */
 #define PF_FILE_SIZE(rows) ((size_t)PF_BLOCK_SIZE * (((size_t)(rows) + PF_BLOCK_ROWS - 1) / PF_BLOCK_ROWS))
@@ -36,15 +36,17 @@
 #define PF_FOLD_WORK 49152
 #define PF_FOLD_CLOCKS 256
 
-/* What pf_run needs, at least: bytes of `work`. */
-#define PF_RUN_WORK 16384
+/* What pf_run and pf_sort need, at least, for a file of so many rows: bytes of `work`. Files of at most
+ * 65536 bytes have at most 8064 rows, longer ones more. */
+#define PF_ROW_WORK(rows) ((size_t)((rows) > 8064 ? 65536 : 16384))
 
-/* What pf_sort needs, at least: bytes of `work`. */
-#define PF_SORT_WORK 16384
+/* What is enough for every file: bytes of `work`. */
+#define PF_RUN_WORK 65536
+#define PF_SORT_WORK 65536
 
-/* What pf_import needs, at least: bytes of `result`, bytes of `work`. */
-#define PF_IMPORT_RESULT 65536
-#define PF_IMPORT_WORK 49152
+/* What pf_import needs, at least, for every text: bytes of `result`, bytes of `work`. */
+#define PF_IMPORT_RESULT 262144
+#define PF_IMPORT_WORK 196608
 
 #ifdef __cplusplus
 extern "C" {
@@ -88,8 +90,8 @@ pf_folded pf_fold(const uint8_t *file, size_t file_len, uint32_t wish, uint8_t *
 
 /* Runs a file for `steps` steps, at most 4096. `choices` has a byte, 0 or 1, for each register that
  * resets to X; `inputs` has one for each input, step after step; `result` gets one for each output,
- * step after step, all in row order. Later bytes of `result` are unchanged. At least PF_RUN_WORK bytes
- * of `work` are needed. Refusals 1 to 10 and 17 to 20. */
+ * step after step, all in row order. Later bytes of `result` are unchanged. At least PF_ROW_WORK(rows)
+ * bytes of `work` are needed; PF_RUN_WORK are always enough. Refusals 1 to 10 and 17 to 20. */
 pf_refusal pf_run(const uint8_t *file, size_t file_len, uint32_t steps, const uint8_t *choices, size_t choices_len,
                   const uint8_t *inputs, size_t inputs_len, uint8_t *result, size_t result_len, uint8_t *work, size_t work_len);
 
@@ -97,8 +99,8 @@ pf_refusal pf_run(const uint8_t *file, size_t file_len, uint32_t steps, const ui
  * The constant comes first, then inputs and registers in row order, then always the lowest-numbered
  * gate whose gate operands are all placed, then the outputs in row order. `result` then starts with
  * the sorted file, as long as `file`, and is zero after it. At least `file_len` bytes of `result` and
- * PF_SORT_WORK of `work` are needed. Refusals 1 to 10, then 23 (memory) and 22 (a loop of gates; the
- * place is the lowest gate that is in a loop or behind one). */
+ * PF_ROW_WORK(rows) of `work` are needed; PF_SORT_WORK are always enough. Refusals 1 to 10, then 23
+ * (memory) and 22 (a loop of gates; the place is the lowest gate that is in a loop or behind one). */
 pf_written pf_sort(const uint8_t *file, size_t file_len, uint8_t *result, size_t result_len,
                    uint8_t *work, size_t work_len);
 

@@ -5,8 +5,8 @@
 #include "phasefold.h"
 
 static uint8_t file[PF_FILE_MAX + PF_BLOCK_SIZE];
-static uint8_t result[PF_FOLD_RESULT];
-static uint8_t work[PF_FOLD_WORK];
+static uint8_t result[PF_IMPORT_RESULT];
+static uint8_t work[PF_IMPORT_WORK];
 static pf_clock clocks[PF_FOLD_CLOCKS];
 static int wrong;
 
@@ -55,19 +55,72 @@ static void expect_fold(size_t size)
     expect("clock entries that stay", kept, PF_FOLD_CLOCKS - folded.used);
 }
 
+static uint8_t *row_at(size_t row)
+{
+    return file + PF_BLOCK_SIZE * (row / PF_BLOCK_ROWS) + 4 + 8 * (row % PF_BLOCK_ROWS);
+}
+
 static void set_field(size_t row, size_t field, unsigned value)
 {
-    uint8_t *at = file + 4 + 8 * row + 2 + 2 * field;
+    uint8_t *at = row_at(row) + 2 + 2 * field;
     at[0] = value & 255;
     at[1] = value >> 8;
 }
 
-/* Makes the check of the first block right. */
-static void seal(void)
+/* Makes the check of a block right. */
+static void seal(uint8_t *block)
 {
     uint32_t sum = 0;
-    for (size_t k = 0; k < 508; k += 4) sum += file[k] | file[k + 1] << 8 | file[k + 2] << 16 | (uint32_t)file[k + 3] << 24;
-    for (size_t k = 0; k < 4; k++) file[508 + k] = ~sum >> 8 * k & 255;
+    for (size_t k = 0; k < 508; k += 4) sum += block[k] | block[k + 1] << 8 | block[k + 2] << 16 | (uint32_t)block[k + 3] << 24;
+    for (size_t k = 0; k < 4; k++) block[508 + k] = ~sum >> 8 * k & 255;
+}
+
+/* A file of inputs and an output, of so many rows; its size. */
+static size_t make_long(size_t rows)
+{
+    size_t blocks = (rows + PF_BLOCK_ROWS - 1) / PF_BLOCK_ROWS;
+    memset(file, 0, sizeof file);
+    for (size_t row = 1; row < rows - 1; row++) {
+        *row_at(row) = 1;
+        set_field(row, 0, row);
+    }
+    *row_at(rows - 1) = 6;
+    for (size_t k = 0; k < blocks; k++) {
+        uint8_t *block = file + PF_BLOCK_SIZE * k;
+        block[0] = k == blocks - 1 ? 2 : 1;
+        block[1] = k & 255;
+        block[2] = k == blocks - 1 ? rows - PF_BLOCK_ROWS * k : PF_BLOCK_ROWS;
+        block[3] = k >> 8;
+        seal(block);
+    }
+    return PF_BLOCK_SIZE * blocks;
+}
+
+/* The least work of run and of sort for so many rows. */
+static void expect_work(size_t rows, size_t bytes)
+{
+    size_t size = make_long(rows);
+    expect("work by rows", PF_ROW_WORK(rows), bytes);
+    expect("run of many rows", run(size, bytes), 0);
+    expect("short work of a run of many rows", run(size, bytes - 1), 20);
+    expect("sort of many rows", sort(size, size, bytes), 0);
+    expect("short work of a sort of many rows", sort(size, size, bytes - 1), 23);
+}
+
+/* The longest file, and a number that its blocks have in two bytes. */
+static void expect_long(void)
+{
+    size_t size = make_long(32256);
+    expect("the size of the longest file", size, PF_FILE_MAX);
+    expect("the longest file", pf_check(file, size).number, 0);
+    expect("its nodes", pf_count(file, size).nodes, 32255);
+    expect("its last block", pf_show(file, size, 511).offset, 511 * PF_BLOCK_SIZE + 4);
+    expect("a block too many", pf_show(file, size, 512).number, 21);
+    expect("its fold", fold(size, PF_FOLD_RESULT, PF_FOLD_WORK, PF_FOLD_CLOCKS), 11);
+    file[300 * PF_BLOCK_SIZE + 3] = 0;
+    seal(file + 300 * PF_BLOCK_SIZE);
+    expect("block 300 without its high byte", pf_check(file, size).number, 3);
+    expect("the place of that refusal", pf_check(file, size).place, 300);
 }
 
 /* What a sort leaves, of the sample whose row 5 names row 6: zeros after the file, which is accepted, and in work; then with a loop of both. */
@@ -75,7 +128,7 @@ static void expect_sort(size_t size)
 {
     size_t zeros = 0, clear = 0;
     set_field(5, 1, 12);
-    seal();
+    seal(file);
     expect("gates in any order", pf_check(file, size).number, 9);
     fill(0xa5);
     pf_written sorted = pf_sort(file, size, result, sizeof result, work, PF_SORT_WORK);
@@ -86,13 +139,13 @@ static void expect_sort(size_t size)
     expect("the sorted file", pf_check(result, size).number, 0);
     expect("zeros after the sorted file", zeros, sizeof result - size);
     expect("work that is zero after sort", clear, PF_SORT_WORK);
-    expect("the least result of sort", sort(size, size, PF_SORT_WORK), 0);
+    expect("the least memory of sort", sort(size, size, PF_ROW_WORK(8)), 0);
     expect("a short result of sort", sort(size, size - 1, PF_SORT_WORK), 23);
-    expect("short work of sort", sort(size, size, PF_SORT_WORK - 1), 23);
+    expect("short work of sort", sort(size, size, PF_ROW_WORK(8) - 1), 23);
     expect("sort, result NULL", pf_sort(file, size, NULL, 0, work, sizeof work).number, 23);
     expect("sort, work NULL", pf_sort(file, size, result, sizeof result, NULL, 0).number, 23);
     set_field(6, 1, 10);
-    seal();
+    seal(file);
     fill(0xa5);
     sorted = pf_sort(file, size, result, sizeof result, work, PF_SORT_WORK);
     expect("a loop", sorted.number, 22);
@@ -134,6 +187,24 @@ static void expect_import(void)
     expect("import, work NULL", pf_import(NULL, 0, result, sizeof result, NULL, 0).number, 23);
 }
 
+/* A text of inputs and an output, of so many rows. */
+static pf_written import_long(size_t rows)
+{
+    static char text[400000];
+    size_t inputs = rows - 2;
+    size_t length = sprintf(text, "aag %zu %zu 0 1 0\n", inputs, inputs);
+    for (size_t k = 1; k <= inputs; k++) length += sprintf(text + length, "%zu\n", 2 * k);
+    length += sprintf(text + length, "2\n");
+    return pf_import((const uint8_t *)text, length, result, PF_IMPORT_RESULT, work, PF_IMPORT_WORK);
+}
+
+static void expect_long_import(void)
+{
+    expect("the longest import", import_long(32256).rows, 32256);
+    expect("its file", pf_check(result, PF_FILE_MAX).number, 0);
+    expect("a longer import", import_long(32257).number, 25);
+}
+
 /* A part of length 0 may be NULL, and is refused or not as any other of that length. */
 static void expect_null(size_t size)
 {
@@ -157,23 +228,28 @@ int main(int count, char **words)
     size_t size = fread(file, 1, sizeof file, from);
     fclose(from);
 
-    expect("version", PF_VERSION, 3);
+    expect("version", PF_VERSION, 4);
     expect("a file of 1 row", PF_FILE_SIZE(1), PF_BLOCK_SIZE);
     expect("a file of 63 rows", PF_FILE_SIZE(PF_BLOCK_ROWS), PF_BLOCK_SIZE);
     expect("a file of 64 rows", PF_FILE_SIZE(PF_BLOCK_ROWS + 1), 2 * PF_BLOCK_SIZE);
-    expect("a file of 8064 rows", PF_FILE_SIZE(8064), PF_FILE_MAX);
-    expect("the longest file", pf_check(file, PF_FILE_MAX).number, 3);
+    expect("a file of 32256 rows", PF_FILE_SIZE(32256), PF_FILE_MAX);
+    expect("a file with zeros up to the greatest length", pf_check(file, PF_FILE_MAX).number, 3);
     expect("a longer file", pf_check(file, PF_FILE_MAX + PF_BLOCK_SIZE).number, 1);
     expect("fold", fold(size, PF_FOLD_RESULT, PF_FOLD_WORK, PF_FOLD_CLOCKS), 0);
     expect("a short result", fold(size, PF_FOLD_RESULT - 1, PF_FOLD_WORK, PF_FOLD_CLOCKS), 15);
     expect("short work", fold(size, PF_FOLD_RESULT, PF_FOLD_WORK - 1, PF_FOLD_CLOCKS), 15);
     expect("few clocks", fold(size, PF_FOLD_RESULT, PF_FOLD_WORK, PF_FOLD_CLOCKS - 1), 15);
-    expect("run", run(size, PF_RUN_WORK), 0);
-    expect("short work of run", run(size, PF_RUN_WORK - 1), 20);
+    expect("run", run(size, PF_ROW_WORK(8)), 0);
+    expect("short work of run", run(size, PF_ROW_WORK(8) - 1), 20);
     expect("show", pf_show(file, size, 0).size, PF_BLOCK_ROWS * 8);
     expect_fold(size);
     expect_null(size);
     expect_sort(size);
     expect_import();
+    expect_work(8064, 16384);
+    expect_work(8065, PF_RUN_WORK);
+    expect_work(32256, PF_SORT_WORK);
+    expect_long();
+    expect_long_import();
     return wrong;
 }

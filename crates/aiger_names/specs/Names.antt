@@ -28,7 +28,7 @@ use Rattle.aiger_names.specs.declared.Taken.the-variants as taken
 
 -- The bytes that pairs and tree are lent: enough for the pairs of as many rows as a file has, and a tree of all their nodes.
 abbrev pub nameBytes : ℕ
-nameBytes = 98304
+nameBytes = 393216
 
 -- ---- lines and rows
 

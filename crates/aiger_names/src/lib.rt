@@ -13,7 +13,7 @@ use aiger_lines::Line;
 use aiger_lines::Section;
 
 // What pairs and tree are lent: enough for the pairs of as many rows as a file has, and a tree of all their nodes.
-pub const NAME_BYTES: usize = 98304;
+pub const NAME_BYTES: usize = 393216;
 
 // Nodes `start` to `end` - 1. The first window has the nodes that count up from the constant, whose variables are their numbers; the nodes of the others are the entries of a tree, which stands behind the pairs.
 pub struct Window {

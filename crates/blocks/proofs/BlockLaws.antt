@@ -12,7 +12,7 @@ use Rattle.memory.specs.Lists.{allBelow}
 use Rattle.memory.specs.Fields.{byteAt}
 use Rattle.memory.proofs.TestLaws.{cond-case, and-true, fails}
 use Rattle.memory.proofs.ListLaws.{allBelow-at}
-use Rattle.netlist.specs.FileFormat.{lastMark, wordSum, rightSum}
+use Rattle.netlist.specs.FileFormat.{lastMark, lowByte, highByte, wordSum, rightSum}
 use Rattle.questions.specs.Questions.{sumRight, headRight, countRight, unusedRight, blockQuestions}
 
 -- ---- the head
@@ -26,8 +26,8 @@ module _ (k B : ℕ) where
 
   module _ (b : List ℕ) where
     -- Bytes 0, 1 and 3.
-    pub head-tested : (m n : ℕ) (t u : Bool) → m ≡ lastMark k B → n ≡ byteAt b 1 → t ≡ eqb (byteAt b 0) m && eqb n B → u ≡ t && eqb (byteAt b 3) 0 → u ≡ headRight k B b
-    head-tested m n t u em en et eu = rw (eu, et, en, em)
+    pub head-tested : (m l h : ℕ) (t u : Bool) → m ≡ lastMark k B → l ≡ byteAt b 1 → h ≡ byteAt b 3 → t ≡ eqb (byteAt b 0) m && eqb l (lowByte B) → u ≡ t && eqb h (highByte B) → u ≡ headRight k B b
+    head-tested m l h t u em el eh et eu = rw (eu, et, el, eh, em)
 
     pub count-of-last : (t : Bool) → B + 1 ≡ k → t ≡ leb 1 (byteAt b 2) && leb (byteAt b 2) 63 → t ≡ countRight k B b
     count-of-last t e h = rw (← add-one B, eq-eqb (B + 1) k e) h

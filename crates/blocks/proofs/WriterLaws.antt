@@ -13,7 +13,7 @@ use Rattle.memory.specs.Lists.{joinBelow}
 use Rattle.memory.specs.Fields.{byteAt, u32At, u32Bytes}
 use Rattle.memory.proofs.ListLaws.{join-length, join-at}
 use Rattle.netlist.specs.Rows.{Row, rowAt}
-use Rattle.netlist.specs.FileFormat.{lastMark, wordSum, rightSum, blockAt, rowOffset, rowBytes, blockBody, checkWord, blockBytes, blockRows, blocksFor, fileOf}
+use Rattle.netlist.specs.FileFormat.{lastMark, lowByte, highByte, wordSum, rightSum, blockAt, rowOffset, rowBytes, blockBody, checkWord, blockBytes, blockRows, blocksFor, fileOf}
 use Rattle.netlist.proofs.FileLaws.{sum-suc, sum-cong, block-at, block-back, part-length, part-at, file-length, body-length}
 use Rattle.blockfile.specs.RowsStand.{RowsStand}
 
@@ -70,10 +70,10 @@ module _ (k B n : ℕ) (p : List ℕ) (sized : 512 ≤ length p) (few : n ≤ 63
   left = 512 - unused
 
   -- Headed and cleared: the body, four zeros where the check comes, and what follows.
-  cleared-is : (m : ℕ) (q y : List ℕ) → m ≡ lastMark k B → q ≡ sets p 0 (m ∷ B ∷ n ∷ 0 ∷ []) → y ≡ replicate (length (midOf unused left q)) 0 → putMid unused left q y ≡ (blockBody k B rs ++ replicate 4 0) ++ drop 512 p
+  cleared-is : (m : ℕ) (q y : List ℕ) → m ≡ lastMark k B → q ≡ sets p 0 (m ∷ lowByte B ∷ n ∷ highByte B ∷ []) → y ≡ replicate (length (midOf unused left q)) 0 → putMid unused left q y ≡ (blockBody k B rs ++ replicate 4 0) ++ drop 512 p
   unfolding blockBody
   cleared-is m q y g e f =
-      let head : List ℕ = m ∷ B ∷ n ∷ 0 ∷ [] in
+      let head : List ℕ = m ∷ lowByte B ∷ n ∷ highByte B ∷ [] in
       let w : q ≡ head ++ drop 4 p = e ∙ sets-eq head p 0 (omega arith) in
       let j : take (8 * n) (drop 4 p) ≡ rowsBytes rs = ap (λ (x : ℕ). take (8 * x) (drop 4 p)) (sym count) ∙ rows-joined rs p sized (omega arith) stand in
       let t : take unused q ≡ head ++ rowsBytes rs = ap (take unused) w ∙ take-append-add head (drop 4 p) (8 * n) ∙ ap (λ z. head ++ z) j in
@@ -82,8 +82,8 @@ module _ (k B n : ℕ) (p : List ℕ) (sized : 512 ≤ length p) (few : n ≤ 63
       let d : postOf unused left q ≡ drop 512 p = post-is unused 512 q (omega arith) ∙ ap (drop 512) w ∙ drop-drop 508 4 p in
       let zeros : List ℕ = replicate (504 - 8 * length rs) 0 in
       rw (t, d, f, z, ← replicate-append-replicate {A = ℕ} (504 - 8 * n) 4 0, g, ← count) (
-      sym (append-assoc (lastMark k B ∷ B ∷ length rs ∷ 0 ∷ rowsBytes rs) (zeros ++ replicate 4 0) (drop 512 p))
-      ∙ ap (λ x. x ++ drop 512 p) (sym (append-assoc (lastMark k B ∷ B ∷ length rs ∷ 0 ∷ rowsBytes rs) zeros (replicate 4 0)))
+      sym (append-assoc (lastMark k B ∷ lowByte B ∷ length rs ∷ highByte B ∷ rowsBytes rs) (zeros ++ replicate 4 0) (drop 512 p))
+      ∙ ap (λ x. x ++ drop 512 p) (sym (append-assoc (lastMark k B ∷ lowByte B ∷ length rs ∷ highByte B ∷ rowsBytes rs) zeros (replicate 4 0)))
       )
 
   -- Its check written: the block.
@@ -100,7 +100,7 @@ module _ (k B n : ℕ) (p : List ℕ) (sized : 512 ≤ length p) (few : n ≤ 63
       let c : checkWord r ≡ checkWord b = ap checkWord o ∙ check-front b (replicate 4 0 ++ drop 512 p) l in
       f ∙ sets-eq (u32Bytes (checkWord r)) r 508 (omega arith) ∙ rw (t, d, c) refl
 
-  pub block-written : (m : ℕ) (q y s : List ℕ) → m ≡ lastMark k B → q ≡ sets p 0 (m ∷ B ∷ n ∷ 0 ∷ []) → y ≡ replicate (length (midOf unused left q)) 0 → s ≡ sets (putMid unused left q y) 508 (u32Bytes (checkWord (putMid unused left q y)))
+  pub block-written : (m : ℕ) (q y s : List ℕ) → m ≡ lastMark k B → q ≡ sets p 0 (m ∷ lowByte B ∷ n ∷ highByte B ∷ []) → y ≡ replicate (length (midOf unused left q)) 0 → s ≡ sets (putMid unused left q y) 508 (u32Bytes (checkWord (putMid unused left q y)))
       → s ≡ blockBytes k B rs ++ drop 512 p
   block-written m q y s g e f h = checked-is (putMid unused left q y) s (cleared-is m q y g e f) h
 

@@ -37,11 +37,12 @@ fn header_right(block: &[u8], number: usize, blocks: usize) -> bool
     ensures { λ r. ⌜ r ≡ headRight blocks number (now (block .entry)) ⌝ }
 {
     let mark = last_mark(number, blocks);
-    let said = memory::read_u8(block, 1) as usize;
+    let low = memory::read_u8(block, 1) as usize;
+    let high = memory::read_u8(block, 3) as usize;
     let marked = block[0] == mark;
-    let numbered = said == number;
-    let zero = block[3] == 0;
-    both(both(marked, numbered), zero)
+    let low_right = low == number % 256;
+    let high_right = high == number / 256 % 256;
+    both(both(marked, low_right), high_right)
 }
 
 fn row_count_right(block: &[u8], number: usize, blocks: usize) -> bool

@@ -35,14 +35,14 @@ fn rows_in(rows: usize, number: usize) -> usize
     if left < 63 { left } else { 63 }
 }
 
-fn write_head(block: &mut [u8], mark: u8, number: u8, count: u8)
+fn write_head(block: &mut [u8], mark: u8, low: u8, count: u8, high: u8)
     requires { ⌜ 4 ≤ length (now block) ⌝ }
-    ensures { λ _. ⌜ now (block .exit) ≡ sets (now (block .entry)) 0 (mark ∷ number ∷ count ∷ 0 ∷ []) ⌝ }
+    ensures { λ _. ⌜ now (block .exit) ≡ sets (now (block .entry)) 0 (mark ∷ low ∷ count ∷ high ∷ []) ⌝ }
 {
     block[0] = mark;
-    block[1] = number;
+    block[1] = low;
     block[2] = count;
-    block[3] = 0;
+    block[3] = high;
 }
 
 // The check of the 508 bytes before it.
@@ -61,10 +61,11 @@ pub fn write_block(block: &mut [u8], blocks: usize, number: usize, count: usize)
     ensures { λ _. ⌜ ((rs : List Row) → length rs ≡ count → RowsStand rs (now (block .entry)) → now (block .exit) ≡ blockBytes blocks number rs ++ drop 512 (now (block .entry))) ⌝ }
 {
     let mark = crate::last_mark(number, blocks);
-    let index = number as u8;
+    let low = (number % 256) as u8;
+    let high = (number / 256 % 256) as u8;
     let used = count as u8;
     let unused = 4 + 8 * count;
-    write_head(block, mark, index, used);
+    write_head(block, mark, low, used, high);
     memory::clear(&mut block[unused..512]);
     write_check(block);
 }

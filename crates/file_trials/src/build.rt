@@ -62,7 +62,7 @@ fn share_of(byte: u8, i: usize) -> u32 {
 }
 
 // The sum of the words before a block's check word.
-fn sum_before_check(file: &[u8], block: u8) -> u32 {
+fn sum_before_check(file: &[u8], block: u16) -> u32 {
     let start = 512 * block as usize;
     let mut sum: u32 = 0;
     let mut i = 0;
@@ -77,11 +77,11 @@ fn sum_before_check(file: &[u8], block: u8) -> u32 {
 }
 
 // The check word that makes a block's sum right.
-fn check_word(file: &[u8], block: u8) -> u32 {
+fn check_word(file: &[u8], block: u16) -> u32 {
     4294967295 - sum_before_check(file, block)
 }
 
-fn seal_block(file: &mut [u8], block: u8) {
+fn seal_block(file: &mut [u8], block: u16) {
     let check = check_word(file, block);
     let at = 512 * block as u32 + 508;
     let low = (check % 65536) as u16;
@@ -91,21 +91,26 @@ fn seal_block(file: &mut [u8], block: u8) {
 }
 
 // The check words of the first `count` blocks.
-fn seal(file: &mut [u8], count: u8) {
-    let mut block: u8 = 0;
+fn seal(file: &mut [u8], count: u16) {
+    let mut block: u16 = 0;
     'sealing: while block < count {
         seal_block(file, block);
         block += 1;
     }
 }
 
-fn put_head(file: &mut [u8], block: u8, mark: u8, count: u8) {
+// The block's number has its low byte in byte 1 and its high byte in byte 3.
+fn put_head(file: &mut [u8], block: u16, mark: u8, count: u8) {
     let start = 512 * block as usize;
-    let number_at = start + 1;
+    let low_at = start + 1;
     let count_at = start + 2;
+    let high_at = start + 3;
+    let low = (block % 256) as u8;
+    let high = (block / 256) as u8;
     put(file, start, mark);
-    put(file, number_at, block);
+    put(file, low_at, low);
     put(file, count_at, count);
+    put(file, high_at, high);
 }
 
 // Row `row` of a long netlist: by turns input, register, AND and XOR.
@@ -161,8 +166,8 @@ fn put_long_rows(file: &mut [u8], letter: u8, rows: u16) {
 }
 
 // Heads of the blocks before the last.
-fn put_heads(file: &mut [u8], last: u8) {
-    let mut block: u8 = 0;
+fn put_heads(file: &mut [u8], last: u16) {
+    let mut block: u16 = 0;
     'heads: while block < last {
         put_head(file, block, NOT_LAST, 63);
         block += 1;
@@ -170,11 +175,11 @@ fn put_heads(file: &mut [u8], last: u8) {
 }
 
 // A netlist whose last block is number `last`, with `count` rows in it.
-fn put_long(file: &mut [u8], letter: u8, last: u8, count: u8) {
-    let full = 63 * last as u16;
+fn put_long(file: &mut [u8], letter: u8, last: u16, count: u8) {
+    let full = 63 * (last % 1024);
     let rows = full + count as u16;
     let last_row = std::num::wrapping_sub_u16(rows, 1);
-    let blocks = std::num::wrapping_add_u8(last, 1);
+    let blocks = std::num::wrapping_add_u16(last, 1);
     put_long_rows(file, letter, last_row);
     put_heads(file, last);
     put_head(file, last, LAST, count);
@@ -198,6 +203,20 @@ fn close(file: &mut [u8], count: u8) {
     seal_block(file, 0);
 }
 
+// Two blocks change places.
+fn exchange(file: &mut [u8], x: u16, y: u16) {
+    let from = 512 * x as usize;
+    let to = 512 * y as usize;
+    let mut i = 0;
+    'bytes: while i < 512 {
+        let first = get(file, from + i);
+        let second = get(file, to + i);
+        put(file, from + i, second);
+        put(file, to + i, first);
+        i += 1;
+    }
+}
+
 // The lines that build a file.
 pub fn obey(letter: u8, numbers: &[u32], file: &mut [u8], kept: &mut [u8]) {
     match letter {
@@ -205,8 +224,9 @@ pub fn obey(letter: u8, numbers: &[u32], file: &mut [u8], kept: &mut [u8]) {
         b'r' => put_line_row(file, numbers),
         b'b' => put(file, size_at(numbers, 1), byte_at(numbers, 3)),
         b'c' => close(file, byte_at(numbers, 1)),
-        b's' => seal(file, byte_at(numbers, 1)),
-        b'l' | b'f' | b't' => put_long(file, letter, byte_at(numbers, 1), byte_at(numbers, 2)),
+        b's' => seal(file, field_at(numbers, 1)),
+        b'l' | b'f' | b't' => put_long(file, letter, field_at(numbers, 1), byte_at(numbers, 2)),
+        b'e' => exchange(file, field_at(numbers, 1), field_at(numbers, 2)),
         b'k' => crate::bytes::copy(kept, file),
         b'a' => crate::bytes::copy(file, kept),
         _ => {}

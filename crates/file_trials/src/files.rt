@@ -41,6 +41,32 @@ fn try_lengths(tally: Tally, numbers: &[u32], file: &[u8]) -> Tally {
     crate::tell::number(tally, accepted, number_at(numbers, 3))
 }
 
+// 1 if the first `blocks` blocks are refused with 3 at the last of them.
+fn cut_refused(file: &[u8], blocks: u16) -> u32 {
+    let answer = phasefold::check(first(file, 512 * blocks as usize));
+    let value = crate::tell::of_check(answer);
+    let last = std::num::wrapping_sub_u16(blocks, 1);
+    one_if(crate::tell::alike(value, Seen(3, last as u32)))
+}
+
+fn count_cuts(file: &[u8], most: u16) -> u32 {
+    let mut refused: u32 = 0;
+    let mut blocks: u16 = 0;
+    'cuts: while blocks < most {
+        blocks += 1;
+        let more = cut_refused(file, blocks);
+        refused = std::num::wrapping_add_u32(refused, more);
+    }
+    refused
+}
+
+// Blocks MOST is COUNT
+fn try_blocks(tally: Tally, numbers: &[u32], file: &[u8]) -> Tally {
+    let most = crate::bytes::field_at(numbers, 1);
+    let refused = count_cuts(file, most);
+    crate::tell::number(tally, refused, number_at(numbers, 3))
+}
+
 // One bit of the first block changes: bit i mod 8 of byte i / 8.
 fn flip(file: &mut [u8], i: u16) {
     let at = (i / 8) as usize;
@@ -164,6 +190,7 @@ pub fn obey(letter: u8, numbers: &[u32], file: &mut [u8], tally: Tally) -> Tally
     match letter {
         b'C' => try_check(tally, numbers, file),
         b'L' => try_lengths(tally, numbers, file),
+        b'B' => try_blocks(tally, numbers, file),
         b'F' => try_flips(tally, numbers, file),
         b'W' => try_word(tally, numbers, file),
         b'N' => try_counts(tally, numbers, file),

@@ -11,17 +11,17 @@ mod script;
 mod sorts;
 mod tell;
 
-// Room for 129 blocks, one more than a file may have.
-fn file_room() -> [u8; 66048]
-    ensures { λ r. ⌜ 66048 ≡ length r ⌝ }
+// Room for 513 blocks, one more than a file may have.
+fn file_room() -> [u8; 262656]
+    ensures { λ r. ⌜ 262656 ≡ length r ⌝ }
 {
-    [0; 66048]
+    [0; 262656]
 }
 
-fn list_room() -> [u8; 5000]
-    ensures { λ r. ⌜ 5000 ≡ length r ⌝ }
+fn list_room() -> [u8; 20000]
+    ensures { λ r. ⌜ 20000 ≡ length r ⌝ }
 {
-    [0; 5000]
+    [0; 20000]
 }
 
 // The lines of a trial begin with a capital letter and go on with what is seen; titles stand alone.

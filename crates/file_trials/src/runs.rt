@@ -102,7 +102,7 @@ fn try_run(
     inputs: &[u8],
     result: &mut [u8],
 ) -> Tally {
-    let mut works = [WORK_FILL; 16400];
+    let mut works = [WORK_FILL; 65552];
     let work: &mut [u8] = &mut works;
     fill(result, RESULT_FILL);
     let value = run_lent(numbers, file, choices, inputs, result, work);

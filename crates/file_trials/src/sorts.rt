@@ -39,7 +39,7 @@ fn try_sort(
     expected: &[u8],
     result: &mut [u8],
 ) -> Tally {
-    let mut works = [WORK_FILL; 16400];
+    let mut works = [WORK_FILL; 65552];
     let work: &mut [u8] = &mut works;
     crate::runs::fill(result, RESULT_FILL);
     let answer = sort_lent(numbers, file, result, work);

@@ -1,10 +1,11 @@
 // The printing program: one netlist file on standard input is folded with wish 0; the answers, the clock entries and the result's rows are printed, or the refusal.
+ghost use mathlib.Core.Path.{_≡_};
+ghost use lib.ListN.{length};
 use fold_core::FoldNumbers;
 use fold_core::FoldRefusal;
 use fold_core::Folding;
 use listing::folds::CLOCK_ENTRIES;
 use listing::folds::work_room;
-use listing::rows::file_room;
 use text::bytes::first;
 use text::files::Loaded;
 use text::out::Out;
@@ -15,6 +16,13 @@ const WISH: u32 = 0;
 const INPUT: i32 = 0;
 
 const OUTPUT: i32 = 1;
+
+// The program reads 65,536 bytes, though a file may have more: the room has one byte more than that. A longer input fills it, and 65,537 is no multiple of 512, so it is refused with 1, even where the file is sound.
+fn input_room() -> [u8; 65537]
+    ensures { λ r. ⌜ 65537 ≡ length r ⌝ }
+{
+    [0; 65537]
+}
 
 // The answers, the clock entries and the rows.
 fn put_fold(buffer: &mut [u8], numbers: FoldNumbers, result: &[u8], work: &[u8]) -> Out {
@@ -57,6 +65,6 @@ fn read_and_print(room: &mut [u8]) {
 }
 
 fn main() {
-    let mut room = file_room();
+    let mut room = input_room();
     read_and_print(&mut room);
 }

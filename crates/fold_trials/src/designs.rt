@@ -2,7 +2,7 @@
 use reference::rows::Row;
 use reference::rows::put_row;
 
-pub const DESIGNS: usize = 9;
+pub const DESIGNS: usize = 14;
 
 // A row of a table has the digits of kind, reset, a, b and c: one, one, two, two and two of them. The scope paper's sample:
 const SAMPLE: [u32; 8] = [
@@ -127,6 +127,21 @@ fn put_toggles(file: &mut [u8]) -> usize {
     reference::writer::close(file, 258)
 }
 
+// A chain of so many rows: an input, ANDs of it with the inverse of the row before, and the last of them as output.
+fn put_chain(file: &mut [u8], rows: usize) -> usize {
+    let output = std::num::wrapping_sub_usize(rows, 1) % 32768;
+    put_row(file, 1, cells(1, 0, 0, 0, 0));
+    'rows: for at in 2..output {
+        let own = (2 * (at % 32768)) as u16;
+        let inverse = std::num::wrapping_sub_u16(own, 1);
+        put_row(file, at, cells(3, 0, inverse, 2, 0));
+    }
+    let shown = std::num::wrapping_sub_u16((2 * output) as u16, 2);
+    put_row(file, output, cells(6, 0, shown, 0, 0));
+    reference::writer::close(file, rows)
+}
+
+// Behind the others chains of as many rows as Fold takes, and of more, at last of as many as a file may have.
 pub fn put_design(file: &mut [u8], design: usize) -> usize {
     match design {
         0 => put_rows(file, &SAMPLE),
@@ -137,6 +152,11 @@ pub fn put_design(file: &mut [u8], design: usize) -> usize {
         5 => put_rows(file, &PLAIN),
         6 => put_counter(file, 8),
         7 => put_counter(file, 9),
-        _ => put_toggles(file),
+        8 => put_toggles(file),
+        9 => put_chain(file, 1008),
+        10 => put_chain(file, 1009),
+        11 => put_chain(file, 8064),
+        12 => put_chain(file, 8065),
+        _ => put_chain(file, 32256),
     }
 }

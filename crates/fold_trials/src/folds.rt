@@ -153,8 +153,13 @@ pub fn try_fold(file: &[u8], wish: u32, lent: Lent, tally: &mut [usize]) {
 pub fn print(counts: [usize; COUNTS]) {
     tell(
         1,
-        b"folds done #, refused with 2 #, with 14 #, with 15 #, with 16 #\n",
-        [counts[0], counts[2], counts[14], counts[15], counts[16], 0],
+        b"folds done #, refused with 1 #, with 2 #, with 11 #, ",
+        [counts[0], counts[1], counts[2], counts[11], 0, 0],
+    );
+    tell(
+        1,
+        b"with 14 #, with 15 #, with 16 #\n",
+        [counts[14], counts[15], counts[16], 0, 0, 0],
     );
     tell(
         1,

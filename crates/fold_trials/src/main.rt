@@ -34,7 +34,7 @@ fn try_short(file: &[u8], tally: &mut [usize]) {
 
 // At last with a byte of the last check changed.
 fn try_design(design: usize, tally: &mut [usize]) {
-    let mut room = [0u8; 2560];
+    let mut room = [0u8; 262144];
     let file: &mut [u8] = &mut room;
     let size = designs::put_design(file, design);
     try_wishes(first(file, size), tally);
@@ -50,8 +50,15 @@ fn try_designs(tally: &mut [usize]) {
     }
 }
 
+// A block more than a file may have.
+fn try_longer(tally: &mut [usize]) {
+    let room = [0u8; 262656];
+    try_fold(&room, 0, lent(65536, 49152, 256), tally);
+}
+
 fn main() {
     let mut counts = [0usize; folds::COUNTS];
     try_designs(&mut counts);
+    try_longer(&mut counts);
     folds::print(counts);
 }

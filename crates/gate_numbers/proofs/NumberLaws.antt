@@ -22,7 +22,7 @@ use Rattle.ordering.proofs.PlacingLaws.{in-of, in-is}
 use Rattle.ordering.proofs.OrderLaws.{below, below-is, below-in}
 use Rattle.gate_rows.specs.Sources.{sourceRows, Source}
 use Rattle.gate_rows.specs.declared.Layout.{Layout}
-use Rattle.gate_numbers.specs.Numbers.{placedSlot, ofKinds, KindsNumbered}
+use Rattle.gate_numbers.specs.Numbers.{placedSlot, ofKinds, KindsFit, KindsNumbered}
 
 -- ---- the number of a row in a longer order
 
@@ -84,6 +84,13 @@ module _ (rows : List Row) (f : Row → Bool) where
       go : (t : Bool) → length (below rows f (suc m)) ≡ length (below rows f m) + one t → length (below rows f m) ≤ m → length (below rows f (suc m)) ≤ suc m
       go true e h = omega arith
       go false e h = omega arith
+
+  below-grows : (m k : ℕ) → m ≤ k → length (below rows f m) ≤ length (below rows f k)
+  below-grows m zero h = let e : m ≡ 0 = omega arith in rw e (omega arith)
+  below-grows m (suc k) h = elim (ℕ-discrete m (suc k)) [
+    | yes e ↦ rw e (omega arith)
+    | no d ↦ omega (arith, below-grows m k (omega (arith, d)), below-suc k)
+  ]
 
   -- A row's number is how many of them are before it.
   below-number : (m i : ℕ) → i < m → f (rowAt rows i) ≡ true → newNumber (below rows f m) i ≡ length (below rows f i)
@@ -147,9 +154,9 @@ module _ (layout : Layout) (f : List ℕ) (n : ℕ) (F : Source layout f n) (lea
   numbering-none w = record { long = refl; count = omega arith; slots = λ i l. rw (le-ltb i 0 (omega arith)) }
 
   module _ (w₀ w : List ℕ) (row next : ℕ) (N : Numbering rows least most number w₀ w row next) where
-    module _ (h : row < n) (small : number ≤ n) where
+    module _ (h : row < n) (fit : KindsFit rows least most number n) where
       pub numbering-fits : placedSlot + next < 2 ^ 16
-      numbering-fits = omega (arith, F .few, N .count, below-le rows kinds row)
+      numbering-fits = omega (arith, F .few, N .count, below-grows rows kinds row (length rows) (omega (arith, F .count)), fit .upto)
 
       module _ (w′ : List ℕ) (r : ℕ) (room : 2 * n ≤ length w₀) (er : r ≡ next + cond (kinds (rowAt rows row)) 1 0) (ew : w′ ≡ cond (kinds (rowAt rows row)) (setSlot w row (placedSlot + next)) w) where
         long-next : (t : Bool) → length (cond t (setSlot w row (placedSlot + next)) w) ≡ length w₀

@@ -43,16 +43,6 @@ in-last i xs = in-of i (xs ++ (i ∷ [])) (among-end i xs)
 in-other : (i r : ℕ) (xs : List ℕ) → (i ≡ r → ⊥) → isIn i (xs ++ (r ∷ [])) ≡ isIn i xs
 in-other i r xs d = in-append i xs (r ∷ []) ∙ rw (ne-eqb i r d) (or-none (isIn i xs))
 
-pub first-cong : (i n : ℕ) (f g : ℕ → Bool) → ((j : ℕ) → j < i + n → f j ≡ g j) → firstFrom i n f ≡ firstFrom i n g
-first-cong i zero f g h = refl
-first-cong i (suc n) f g h = go (f i) (g i) (h i (omega arith)) (first-cong (suc i) n f g (λ j l. h j (omega arith)))
-  where
-    go : (s t : Bool) → s ≡ t → firstFrom (suc i) n f ≡ firstFrom (suc i) n g → _≡_ {A = ℕ} (elim s [ true ↦ i | false ↦ firstFrom (suc i) n f ]) (elim t [ true ↦ i | false ↦ firstFrom (suc i) n g ])
-    go true true e ih = refl
-    go true false e ih = absurd (true≢false e)
-    go false true e ih = absurd (false≢true e)
-    go false false e ih = ih
-
 -- ---- what a slot says
 
 module _ (rows : List Row) (order w : List ℕ) (P : Placed rows order w) (j : ℕ) (l : j < length rows) where

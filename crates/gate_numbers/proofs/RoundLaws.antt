@@ -12,7 +12,7 @@ use borrow.Author.Tests.{eqb-true, eq-eqb, ne-eqb, lt-ltb, not-true}
 use Rattle.memory.specs.Lists.{firstFrom, Among}
 use Rattle.memory.specs.Slots.{slotAt, setSlot}
 use Rattle.memory.proofs.TestLaws.{and-true, fails}
-use Rattle.memory.proofs.ListLaws.{first-is, first-found}
+use Rattle.memory.proofs.ListLaws.{first-is, first-found, first-cong}
 use Rattle.memory.proofs.SlotLaws.{slot-other}
 use Rattle.netlist.specs.Rows.{Row, rowAt, isOutput, faninNodes}
 use Rattle.questions.specs.Questions.{noRefusal}
@@ -28,11 +28,11 @@ use Rattle.ready_gates.proofs.ReadyLaws.{marked-first, set-same}
 use Rattle.gate_rows.specs.Sources.{sourceRows, Source}
 use Rattle.gate_rows.specs.declared.Layout.{Layout}
 use Rattle.gate_rows.proofs.RowLaws.{row-inside, IsNode, operands-nodes}
-use Rattle.gate_numbers.specs.Numbers.{placedSlot, Numbered, ofKinds, KindsNumbered, gateOf, Placed, NextGate, GatePlaced, nodeOrder, NodesPlaced}
+use Rattle.gate_numbers.specs.Numbers.{placedSlot, Numbered, ofKinds, KindsFit, KindsNumbered, gateOf, Placed, NextGate, GatePlaced, nodeOrder, NodesPlaced}
 use Rattle.gate_numbers.proofs.NumberLaws.{number-left, number-right, below-le}
 use Rattle.gate_numbers.proofs.WakingLaws.{all-cong}
 use Rattle.gate_numbers.proofs.SourceLaws.{output-kinds, node-kinds, same-rows, sources, in-rows, gate-no-source}
-use Rattle.gate_numbers.proofs.PlacementLaws.{in-append, first-cong, ready-slot, Next, user-slot, next-placed}
+use Rattle.gate_numbers.proofs.PlacementLaws.{in-append, ready-slot, Next, user-slot, next-placed}
 
 -- ---- tests and lists
 
@@ -256,8 +256,8 @@ module _ (layout : Layout) (f : List ℕ) (n : ℕ) (F : Source layout f n) wher
           inside = omega (arith, N .inside);
         }
 
-  pub nodes-fit : (w : List ℕ) (nodes : ℕ) → NodesPlaced rows w nodes → nodes ≤ n
-  nodes-fit w nodes D = omega (arith, D .count, all-counted rows (D .passed), F .count)
+  pub nodes-fit : (w : List ℕ) (nodes : ℕ) → NodesPlaced rows w nodes → KindsFit rows 6 6 nodes n
+  nodes-fit w nodes D = record { upto = omega (arith, D .count, all-counted rows (D .passed), F .count, ap length (same-rows rows (ofKinds 6 6) isOutput output-kinds)) }
 
 -- ---- the outputs numbered
 

@@ -21,8 +21,8 @@ use Rattle.ready_gates.specs.ReadySlots.{readySlot, ReadyRoom, ReadyMarked}
 use Rattle.gate_rows.specs.Sources.{sourceRows, Source}
 use Rattle.gate_rows.specs.declared.Layout.{Layout}
 use Rattle.gate_rows.proofs.RowLaws.{operands-nodes}
-use Rattle.gate_numbers.specs.Numbers.{placedSlot, isPlacedIn, ofKinds, KindsNumbered, SourcesNumbered, gateOf, Woken, Placed}
-use Rattle.gate_numbers.proofs.NumberLaws.{ltb-more}
+use Rattle.gate_numbers.specs.Numbers.{placedSlot, isPlacedIn, ofKinds, KindsFit, KindsNumbered, SourcesNumbered, gateOf, Woken, Placed}
+use Rattle.gate_numbers.proofs.NumberLaws.{ltb-more, below-le}
 use Rattle.gate_numbers.proofs.WakingLaws.{gate-cong, woken-none, woken-join}
 
 -- ---- kinds
@@ -87,6 +87,9 @@ module _ (layout : Layout) (f : List ℕ) (n : ℕ) (F : Source layout f n) wher
 
   abbrev S : List ℕ
   S = sources rows
+
+  pub kinds-fit : (least most : ℕ) → KindsFit rows least most 0 n
+  kinds-fit least most = record { upto = omega (arith, F .count, below-le rows (ofKinds least most) (length rows)) }
 
   pub sources-count : (r : ℕ) → r ≡ 0 + length (rowsThat rows (ofKinds 0 2)) → r ≡ length S
   sources-count r e = omega (arith, e, ap length (same-rows rows (ofKinds 0 2) isSource source-kinds))

@@ -1,7 +1,7 @@
 -- The rows' new numbers in slots of two bytes: while gates are placed, and once every row has its number.
--- Interface: placedSlot, Numbered; inside the crate ofKinds, KindsNumbered, SourcesNumbered, isPlacedIn, gateOf, usersOf, Woken, Placed, NextGate, GatePlaced, nodeOrder, NodesPlaced.
+-- Interface: placedSlot, Numbered; inside the crate ofKinds, KindsFit, KindsNumbered, SourcesNumbered, isPlacedIn, gateOf, usersOf, Woken, Placed, NextGate, GatePlaced, nodeOrder, NodesPlaced.
 -- Assumes nothing.
-use Prim.Native.Nat.{ℕ, _+_, _<_}
+use Prim.Native.Nat.{ℕ, _+_, _<_, _≤_}
 use mathlib.Core.Path.{_≡_}
 use mathlib.Core.Bool.{Bool, true, cond, _&&_}
 use mathlib.Core.List.{List, _++_}
@@ -28,6 +28,10 @@ pub record Numbered (rows : List Row) (w : List ℕ) : Type 0 where
 
 abbrev pub ofKinds : ℕ → ℕ → Row → Bool
 ofKinds least most r = leb least (kindOf r) && leb (kindOf r) most
+
+-- Numbered from `number` on, the rows of these kinds get numbers below n.
+pub record KindsFit (rows : List Row) (least most number n : ℕ) : Type 0 where
+  pub upto : number + length (rowsThat rows (ofKinds least most)) ≤ n
 
 -- The rows of these kinds have numbers in row order, from `number` on; the other slots stay.
 pub record KindsNumbered (rows : List Row) (least most number : ℕ) (w w′ : List ℕ) : Type 0 where

@@ -13,7 +13,7 @@ ghost use Rattle.ordering.specs.SortQuestions.{loopRefusal};
 ghost use Rattle.gate_rows.specs.Sources.{sourceRows, Source};
 ghost use Rattle.ready_gates.specs.ReadySlots.{ReadyRoom, ReadyMarked};
 ghost use Rattle.gate_users.specs.Users.{Listed};
-ghost use Rattle.gate_numbers.specs.Numbers.{placedSlot, isPlacedIn, ofKinds, KindsNumbered, SourcesNumbered, gateOf, Woken, Placed, NextGate, GatePlaced, NodesPlaced, Numbered};
+ghost use Rattle.gate_numbers.specs.Numbers.{placedSlot, isPlacedIn, ofKinds, KindsFit, KindsNumbered, SourcesNumbered, gateOf, Woken, Placed, NextGate, GatePlaced, NodesPlaced, Numbered};
 use blockfile::both;
 use gate_rows::Layout;
 
@@ -73,7 +73,7 @@ fn number_kinds(
     most: u8,
     number: usize,
 ) -> usize
-    requires { ⌜ Source layout (now source) rows × ((number ≤ rows) × (2 * rows ≤ length (now slots))) ⌝ }
+    requires { ⌜ Source layout (now source) rows × (KindsFit (sourceRows layout (now source)) least most number rows × (2 * rows ≤ length (now slots))) ⌝ }
     ensures { λ _. ⌜ KindsNumbered (sourceRows layout (now (source .entry))) least most number (now (slots .entry)) (now (slots .exit)) ⌝ }
     ensures { λ r. ⌜ r ≡ number + length (rowsThat (sourceRows layout (now (source .entry))) (ofKinds least most)) ⌝ }
 {

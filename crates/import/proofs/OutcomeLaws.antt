@@ -10,9 +10,10 @@ use lib.ListN.{length, drop, replicate}
 use lib.Seq.{take-at}
 use lib.Dec.{leb}
 use borrow.Author.Tests.{leb-true, leb-false, le-leb, lt-leb, not-true, not-false}
-use Rattle.netlist.specs.Limits.{mostRows, importResultBytes, importWorkBytes}
+use Rattle.netlist.specs.Limits.{mostRows, rowWorkBytes, importResultBytes, importWorkBytes}
 use Rattle.netlist.specs.FileFormat.{blocksFor, fileOf, fileIn, fileLeft}
 use Rattle.netlist.proofs.FileLaws.{file-length}
+use Rattle.netlist.proofs.WorkLaws.{work-most}
 use Rattle.questions.specs.Questions.{Refusal, noRefusal, unlessRefused}
 use Rattle.questions.proofs.QuestionLaws.{same-number}
 use Rattle.ordering.specs.GateOrder.{sortedNetlist}
@@ -48,6 +49,10 @@ use Rattle.import.proofs.PairRowLaws.{source-are, text-source}
 -- The result has room for the file of rows that fit one.
 pub file-room : (layout : Layout) (s : List ℕ) (n : ℕ) (result : List ℕ) → Source layout s n → importResultBytes ≤ length result → 512 * blocksFor n ≤ length result
 file-room layout s n result S h = omega (arith, S .few, h)
+
+-- Work has room for the slots of any file.
+pub slots-room : (n work : ℕ) → importWorkBytes ≤ work → rowWorkBytes n ≤ work
+slots-room n work h = omega (arith, work-most n, h)
 
 pub pairs-kept : (t : Bool) (x y : ℕ) → t ≡ true → x ≡ cond t x y
 pairs-kept t x y e = rw e

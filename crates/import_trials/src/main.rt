@@ -1,4 +1,5 @@
 // Import tried on the texts that standard input lists, and on longer ones that it describes: each group is printed with how many agree, and each that does not.
+mod each;
 mod many;
 mod script;
 mod tell;
@@ -38,6 +39,10 @@ fn obey(line: &[u8], letter: u8, text: &mut [u8], lent: Lent, tally: Tally) -> T
         b'm' => {
             script::read_numbers(line, 0, line.len(), numbers);
             many::try_many(line, text, numbers, lent, tally)
+        }
+        b'e' => {
+            script::read_numbers(line, 0, line.len(), numbers);
+            each::try_each(line, text, numbers, lent, tally)
         }
         _ => tally,
     }

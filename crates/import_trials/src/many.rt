@@ -20,7 +20,7 @@ struct Many {
     cut: usize,
 }
 
-fn size_at(numbers: &[u32], at: usize) -> usize {
+pub fn size_at(numbers: &[u32], at: usize) -> usize {
     number_at(numbers, at) as usize
 }
 
@@ -81,7 +81,7 @@ fn put_text(many: Many, text: &mut [u8]) -> usize {
 
 // ---- what is expected
 
-fn short(value: usize) -> u16 {
+pub fn short(value: usize) -> u16 {
     (value % 65536) as u16
 }
 
@@ -100,7 +100,7 @@ fn shown_by(many: Many) -> u16 {
     } else {
         many.output / 6
     };
-    short(2 * (place % 10000) + many.output % 2)
+    short(2 * (place % 32768) + many.output % 2)
 }
 
 // The file of so many rows, where no gate is.

@@ -7,8 +7,12 @@ use text::numbers::LARGEST;
 use text::numbers::number_at;
 use text::numbers::with_digit;
 
-fn plus(x: usize, y: usize) -> usize {
+pub fn plus(x: usize, y: usize) -> usize {
     std::num::wrapping_add_usize(x, y)
+}
+
+pub fn minus(x: usize, y: usize) -> usize {
+    std::num::wrapping_sub_usize(x, y)
 }
 
 // How many bytes of result and work are lent.
@@ -19,8 +23,8 @@ pub struct Lent {
 
 pub fn enough() -> Lent {
     Lent {
-        result: 65536,
-        work: 49152,
+        result: 262144,
+        work: 196608,
     }
 }
 

@@ -17,9 +17,9 @@ const RESULT_FILL: u8 = 170;
 
 const WORK_FILL: u8 = 85;
 
-const RESULT_ROOM: usize = 66048;
+const RESULT_ROOM: usize = 262656;
 
-const WORK_ROOM: usize = 49664;
+const WORK_ROOM: usize = 197120;
 
 pub fn of_import(answer: Importing) -> Seen {
     match answer {
@@ -32,8 +32,8 @@ pub fn of_import(answer: Importing) -> Seen {
 }
 
 // A result before, longer than what is lent.
-pub fn result_room() -> [u8; 66048]
-    ensures { λ r. ⌜ 66048 ≡ length r ⌝ }
+pub fn result_room() -> [u8; 262656]
+    ensures { λ r. ⌜ 262656 ≡ length r ⌝ }
 {
     [RESULT_FILL; RESULT_ROOM]
 }

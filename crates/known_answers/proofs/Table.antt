@@ -36,11 +36,11 @@ pub record Table : Type 0 where
   -- Head 2, 0, 1, 0, all rows zero: check 4,294,901,757; refused 10.
   pub zero-rows-check : checkWord zeroBody ≡ 4294901757
   pub zero-rows-refused-10 : fileRefusal zeroBlock ≡ record { number = 10; place = 0 }
-  -- Lengths 0 and 511: 1. 65,536 may pass; 66,048: 1. Every file of such a length is refused.
+  -- Lengths 0 and 511: 1. 262,144 may pass; 262,656: 1. Every file of such a length is refused.
   pub length-0-refused-1 : (f : List ℕ) → length f ≡ 0 → fileRefusal f ≡ record { number = 1; place = 0 }
   pub length-511-refused-1 : (f : List ℕ) → length f ≡ 511 → fileRefusal f ≡ record { number = 1; place = 0 }
-  pub length-65536-passes : (length longest ≡ 65536) × (fileRefusal longest ≡ noRefusal)
-  pub length-66048-refused-1 : (f : List ℕ) → length f ≡ 66048 → fileRefusal f ≡ record { number = 1; place = 0 }
+  pub length-262144-passes : (length longest ≡ 262144) × (fileRefusal longest ≡ noRefusal)
+  pub length-262656-refused-1 : (f : List ℕ) → length f ≡ 262656 → fileRefusal f ≡ record { number = 1; place = 0 }
   -- One input as output, no register: stem 0, cycle 1, N 1.
   pub no-register-stem-0-cycle-1-phases-1 : foldNetlist wire 0 ≡ some (record { stem = 0; cycle = 1; phases = 1; used = 0; before = 3; after = 3; clocks = []; rows = wire })
   -- Reset 0, next 1: stem 1, cycle 1, no generator.
@@ -80,8 +80,8 @@ table = record {
   zero-rows-refused-10 = refl;
   length-0-refused-1 = λ f e. length-refused f (rw e);
   length-511-refused-1 = λ f e. length-refused f (rw e);
-  length-65536-passes = (longest-length, longest-accepted);
-  length-66048-refused-1 = λ f e. length-refused f (rw e);
+  length-262144-passes = (longest-length, longest-accepted);
+  length-262656-refused-1 = λ f e. length-refused f (rw e);
   no-register-stem-0-cycle-1-phases-1 = refl;
   rise-stem-1-cycle-1 = refl;
   rise-no-generator = refl;

@@ -9,13 +9,14 @@ use text::bytes::wide;
 use text::out::Out;
 use text::out::put_filled;
 
-pub const MOST_ROWS: usize = 8064;
+// The rows of the longest file.
+pub const MOST_ROWS: usize = 32256;
 
 // One byte more than a file may have: a longer one is seen, and refused with 1.
-pub fn file_room() -> [u8; 65537]
-    ensures { λ r. ⌜ 65537 ≡ length r ⌝ }
+pub fn file_room() -> [u8; 262145]
+    ensures { λ r. ⌜ 262145 ≡ length r ⌝ }
 {
-    [0; 65537]
+    [0; 262145]
 }
 
 // The number of the last block; 0 if there is no block.

@@ -8,7 +8,7 @@ use native.Mathlib.Decide.{decLt}
 use lib.ListN.{length}
 use Rattle.memory.specs.Slots.{slotAt, setSlot}
 use Rattle.memory.proofs.SlotLaws.{slot-same, slot-other}
-use Rattle.netlist.specs.Limits.{sortWorkBytes}
+use Rattle.netlist.specs.Limits.{mostRows, rowWorkBytes}
 use Rattle.netlist.specs.Rows.{Row}
 use Rattle.netlist.specs.FileFormat.{netlistOf}
 use Rattle.blockfile.specs.declared.count.Counts.{Counts}
@@ -80,10 +80,10 @@ module _ {f list list′ : List ℕ} {m n row : ℕ} (R : Source layout.File f m
 pub way-in-file : (f list : List ℕ) (n start : ℕ) → IsWay (sourceRows layout.File f) list n start → IsWay (netlistOf f) list n start
 way-in-file f list n start W = subst (λ (rows : List Row). IsWay rows list n start) (file-is f) W
 
--- An accepted file is a source, and a list as long as Sort's work has a slot for each of its rows.
+-- An accepted file is a source, and a list as long as Sort's work for the greatest file has a slot for each of its rows.
 module _ (file : List ℕ) (a : Acceptance) (A : CheckedUnordered file a) (n : ℕ) (c : Counts) (e : a ≡ Accepted n c) where
   pub accepted-source : Source layout.File file n
   accepted-source = file-source file n (unordered-ready file a A n c e) (sym (A .refusal) ∙ ap acceptRefusal e)
 
-  pub slots-enough : (list : List ℕ) → sortWorkBytes ≤ length list → 2 * n ≤ length list
+  pub slots-enough : (list : List ℕ) → rowWorkBytes mostRows ≤ length list → 2 * n ≤ length list
   slots-enough list room = let few = accepted-source .few in omega arith

@@ -9,7 +9,7 @@ ghost use Rattle.gate_rows.specs.declared.Layout.the-variants.{File};
 ghost use Rattle.loop_way.specs.Ways.{ClosedAt, IsWay};
 use accept::Acceptance;
 use gate_rows::Layout;
-use netlist::SORT_WORK_BYTES;
+use netlist::LARGE_WORK_BYTES;
 
 // How many gates the way has, and which of them the last one names, counted from 0: there the loop starts. Both are 0 if there is no way.
 pub struct Way {
@@ -83,7 +83,7 @@ fn find_in(file: &[u8], rows: usize, list: &mut [u8]) -> Way
     requires { ⌜ Source File (now file) rows × (2 * rows ≤ length (now list)) ⌝ }
     ensures { λ r. ⌜ IsWay (sourceRows File (now (file .entry))) (now (list .exit)) (r .count) (r .start) ⌝ }
 {
-    let mut slots = [0u8; SORT_WORK_BYTES];
+    let mut slots = [0u8; LARGE_WORK_BYTES];
     let first = gate_loops::find_loop(file, Layout::File, &mut slots, rows);
     if first < rows {
         follow(file, &slots, rows, first, list)
@@ -92,11 +92,11 @@ fn find_in(file: &[u8], rows: usize, list: &mut [u8]) -> Way
     }
 }
 
-// The rows of the way in slots of `list`, which needs as many bytes as Sort's work. There is none if the file is refused for anything else than a loop.
+// The rows of the way in slots of `list`, which needs as many bytes as Sort's work for the greatest file. There is none if the file is refused for anything else than a loop.
 pub fn find_way(file: &[u8], list: &mut [u8]) -> Way
     ensures { λ r. ⌜ IsWay (netlistOf (now (file .entry))) (now (list .exit)) (r .count) (r .start) ⌝ }
 {
-    if list.len() < SORT_WORK_BYTES {
+    if list.len() < LARGE_WORK_BYTES {
         return no_way();
     }
     match accept::accept_unordered(file) {

@@ -124,6 +124,17 @@ first-none i n f h = elim (decLt (firstFrom i n f) (i + n)) [
   | no k ↦ (let u = first-is i n f .upto in omega arith)
 ]
 
+-- Tests that agree on the n numbers find the same one.
+pub first-cong : (i n : ℕ) (f g : ℕ → Bool) → ((j : ℕ) → j < i + n → f j ≡ g j) → firstFrom i n f ≡ firstFrom i n g
+first-cong i zero f g h = refl
+first-cong i (suc n) f g h = go (f i) (g i) (h i (omega arith)) (first-cong (suc i) n f g (λ j l. h j (omega arith)))
+  where
+    go : (s t : Bool) → s ≡ t → firstFrom (suc i) n f ≡ firstFrom (suc i) n g → _≡_ {A = ℕ} (elim s [ true ↦ i | false ↦ firstFrom (suc i) n f ]) (elim t [ true ↦ i | false ↦ firstFrom (suc i) n g ])
+    go true true e ih = refl
+    go true false e ih = absurd (true≢false e)
+    go false true e ih = absurd (false≢true e)
+    go false false e ih = ih
+
 -- ---- countIf
 
 pub count-le {ℓ} : {A : Type ℓ} (f : A → Bool) (xs : List A) → countIf f xs ≤ length xs

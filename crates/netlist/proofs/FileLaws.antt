@@ -1,4 +1,4 @@
--- The written file: byte by byte what a block has, each block's sum, and the file read back. Only `file-is-bytes` asks for at most mostRows rows.
+-- The written file: byte by byte what a block has, each block's sum, and the file read back.
 -- Assumes nothing.
 use Prim.Native.Nat.{ℕ, zero, suc, _+_, _-_, _*_, _<_, _≤_, _/_, _%_, _^_, min}
 use mathlib.Core.Path.{_≡_, refl, sym, ap, ap₂, _∙_}
@@ -16,7 +16,7 @@ use Rattle.memory.proofs.ListLaws.{join-length, join-at, tabulate-length, tabul
 use Rattle.memory.proofs.FieldLaws.{u16-small, u16-read, u16-write, u32-read, bytes-cons, bytes-append, bytes-join, bytes-zeros, u16-is-bytes, u32-is-bytes}
 use Rattle.netlist.specs.Limits.{mostRows, mostPhases}
 use Rattle.netlist.specs.Rows.{Row, RowFields, encodeRow, decodeRow, rowFromFields, constant, rowAt, labelOf, input, register, andGate, xorGate, muxGate, output, phaseOf}
-use Rattle.netlist.specs.FileFormat.{lastMark, wordSum, blockCount, blockAt, rowOffset, readFields, rowCount, fieldsOf, fieldsAt, netlistOf, fieldBytes, rowBytes, blockBody, checkWord, blockBytes, blockRows, blocksFor, fileOf}
+use Rattle.netlist.specs.FileFormat.{lastMark, lowByte, highByte, wordSum, blockCount, blockAt, rowOffset, readFields, rowCount, fieldsOf, fieldsAt, netlistOf, fieldBytes, rowBytes, blockBody, checkWord, blockBytes, blockRows, blocksFor, fileOf}
 use Rattle.netlist.proofs.RowLaws.{decode-rows, kind-le}
 use Rattle.netlist.specs.WellFormed.{EachRow, FieldsFit, OperandsBelow, NextBelow}
 
@@ -131,7 +131,7 @@ module _ (k B : ℕ) (rs : List Row) (small : length rs ≤ 63) where
   block-places : (x : ℕ) → x < 504 → byteAt (blockBytes k B rs) (4 + x) ≡ byteAt places x
   block-places x h = block-body (4 + x) (omega arith) ∙ sym (getD-drop 4 (blockBody k B rs) x 0)
 
-  pub block-head : (byteAt (blockBytes k B rs) 0 ≡ lastMark k B) × (byteAt (blockBytes k B rs) 1 ≡ B) × (byteAt (blockBytes k B rs) 2 ≡ length rs) × (byteAt (blockBytes k B rs) 3 ≡ 0)
+  pub block-head : (byteAt (blockBytes k B rs) 0 ≡ lastMark k B) × (byteAt (blockBytes k B rs) 1 ≡ lowByte B) × (byteAt (blockBytes k B rs) 2 ≡ length rs) × (byteAt (blockBytes k B rs) 3 ≡ highByte B)
   unfolding blockBody
   block-head = (block-body 0 (omega arith), block-body 1 (omega arith), block-body 2 (omega arith), block-body 3 (omega arith))
 
@@ -176,17 +176,17 @@ module _ (k B : ℕ) (rs : List Row) (small : length rs ≤ 63) where
       right : (S c : ℕ) → c ≡ (2 ^ 32 - 1 - S % 2 ^ 32) % 2 ^ 32 → (S + c) % 2 ^ 32 ≡ 2 ^ 32 - 1
       right S c e = omega arith
 
-  -- The block is bytes, where its number and its rows' resets are.
-  pub block-is-bytes : B < 2 ^ 8 → EachRow (λ r. encodeRow r .reset < 2 ^ 8) rs → IsBytes (blockBytes k B rs)
+  -- The block is bytes, where its rows' resets are.
+  pub block-is-bytes : EachRow (λ r. encodeRow r .reset < 2 ^ 8) rs → IsBytes (blockBytes k B rs)
   unfolding blockBytes blockBody
-  block-is-bytes b resets =
+  block-is-bytes resets =
       let mark : lastMark k B < 2 ^ 8 = cond-case (λ n. n < 2 ^ 8) (eqb (suc B) k) 2 1 (λ _. omega arith) (λ _. omega arith) in
       let rows = bytes-join (length rs) (λ i. rowBytes (rowAt rs i)) (λ i l. row-is-bytes (rowAt rs i) (resets i l)) in
       bytes-append (blockBody k B rs) (u32Bytes (checkWord (blockBody k B rs)))
-      (bytes-cons (lastMark k B) (B ∷ length rs ∷ 0 ∷ places) mark
-      (bytes-cons B (length rs ∷ 0 ∷ places) b
-      (bytes-cons (length rs) (0 ∷ places) (omega arith)
-      (bytes-cons 0 places (omega arith) (bytes-append written (replicate (504 - 8 * length rs) 0) rows (bytes-zeros (504 - 8 * length rs)))))))
+      (bytes-cons (lastMark k B) (lowByte B ∷ length rs ∷ highByte B ∷ places) mark
+      (bytes-cons (lowByte B) (length rs ∷ highByte B ∷ places) (omega arith)
+      (bytes-cons (length rs) (highByte B ∷ places) (omega arith)
+      (bytes-cons (highByte B) places (omega arith) (bytes-append written (replicate (504 - 8 * length rs) 0) rows (bytes-zeros (504 - 8 * length rs)))))))
       (u32-is-bytes (checkWord (blockBody k B rs)))
 
 -- ---- a file
@@ -273,12 +273,12 @@ module _ (rs : List Row) where
     unfolding netlistOf
     read-back = ap (map decodeRow) fields-back ∙ decode-rows rs
 
-  -- Of at most mostRows rows whose resets are bytes, the file is bytes.
-  pub file-is-bytes : length rs ≤ mostRows → EachRow (λ r. encodeRow r .reset < 2 ^ 8) rs → IsBytes (fileOf rs)
+  -- Of rows whose resets are bytes, the file is bytes.
+  pub file-is-bytes : EachRow (λ r. encodeRow r .reset < 2 ^ 8) rs → IsBytes (fileOf rs)
   unfolding fileOf
-  file-is-bytes few resets =
+  file-is-bytes resets =
       bytes-join k writtenBlock (λ B h.
-      block-is-bytes k B (blockRows rs B) (part-small rs B) (omega arith) (λ j l.
+      block-is-bytes k B (blockRows rs B) (part-small rs B) (λ j l.
       let i : 63 * B + j < length rs = omega (arith, l, part-length rs B) in
       rw (part-at rs B j (omega (arith, l, part-small rs B))) (resets (63 * B + j) i)))
 

@@ -1,4 +1,5 @@
--- Laws of rows, runs, the three-valued run and files.
+-- Laws of rows, runs, the three-valued run, files, and the work that they take.
 pub mod RowLaws
 pub mod SimulationLaws
 pub mod FileLaws
+pub mod WorkLaws

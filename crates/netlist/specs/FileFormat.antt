@@ -14,6 +14,13 @@ use Rattle.netlist.specs.Rows.{Row, RowFields, encodeRow, decodeRow, con
 abbrev pub lastMark : ℕ → ℕ → ℕ
 lastMark k B = cond (eqb (suc B) k) 2 1
 
+-- Bytes 1 and 3 of block B: the low and the high byte of its number, which has 16 bits.
+abbrev pub lowByte : ℕ → ℕ
+lowByte B = B % 2 ^ 8
+
+abbrev pub highByte : ℕ → ℕ
+highByte B = B / 2 ^ 8 % 2 ^ 8
+
 -- The sum of the first n words of 32 bits, and what a block's must be modulo 2 to the 32.
 unfoldable pub wordSum : List ℕ → ℕ → ℕ
 wordSum b zero = zero
@@ -67,7 +74,7 @@ rowBytes r = fieldBytes (encodeRow r)
 
 -- The 508 bytes of block B of k before its check, rs its rows; unused places are zero.
 unfoldable pub blockBody : ℕ → ℕ → List Row → List ℕ
-blockBody k B rs = lastMark k B ∷ B ∷ length rs ∷ 0 ∷ joinBelow (length rs) (λ i. rowBytes (rowAt rs i)) ++ replicate (504 - 8 * length rs) 0
+blockBody k B rs = lastMark k B ∷ lowByte B ∷ length rs ∷ highByte B ∷ joinBelow (length rs) (λ i. rowBytes (rowAt rs i)) ++ replicate (504 - 8 * length rs) 0
 
 -- The check that makes the block's sum right.
 unfoldable pub checkWord : List ℕ → ℕ

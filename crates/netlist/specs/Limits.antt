@@ -1,10 +1,12 @@
 -- The scope paper's limits, each named once: "The netlist file", "The fold" and "Questions, in order".
 -- Assumes nothing.
 use Prim.Native.Nat.{ℕ, _*_}
+use mathlib.Core.Bool.{cond}
+use lib.Dec.{leb}
 
 -- A file has 1 to this many blocks; its bytes (question 1) and its rows follow.
 abbrev pub mostBlocks : ℕ
-mostBlocks = 128
+mostBlocks = 512
 
 abbrev pub mostFileBytes : ℕ
 mostFileBytes = 512 * mostBlocks
@@ -41,20 +43,20 @@ foldClockEntries = 256
 abbrev pub lastState : ℕ
 lastState = 256
 
--- Questions 17 and 20: Run's steps and work.
+-- Question 17: Run's steps.
 abbrev pub mostSteps : ℕ
 mostSteps = 4096
 
-abbrev pub runWorkBytes : ℕ
-runWorkBytes = 16384
+-- Question 20 and Sort's 23: the work for a file of n rows.
+abbrev pub smallFileRows : ℕ
+smallFileRows = 8064
 
--- Question 23: Sort's work.
-abbrev pub sortWorkBytes : ℕ
-sortWorkBytes = 16384
+abbrev pub rowWorkBytes : ℕ → ℕ
+rowWorkBytes n = cond (leb n smallFileRows) 16384 65536
 
--- Question 23: what Import is lent.
+-- Import's 23: what it is lent.
 abbrev pub importResultBytes : ℕ
-importResultBytes = 65536
+importResultBytes = 262144
 
 abbrev pub importWorkBytes : ℕ
-importWorkBytes = 49152
+importWorkBytes = 196608

@@ -8,7 +8,7 @@ use mathlib.Core.List.{List, [], _∷_}
 use lib.ListN.{length}
 use Rattle.memory.specs.Lists.{Among}
 use Rattle.memory.proofs.TestLaws.{leb-iff, and-iff}
-use Rattle.netlist.specs.Limits.{sortWorkBytes}
+use Rattle.netlist.specs.Limits.{rowWorkBytes}
 use Rattle.netlist.specs.Rows.{Row}
 use Rattle.netlist.specs.FileFormat.{netlistOf}
 use Rattle.netlist.specs.WellFormed.{Ordered}
@@ -28,7 +28,7 @@ use Rattle.ordering.proofs.OrderLaws.{below-in}
 use Rattle.ordering.proofs.InOrder.{order-kept}
 
 pub sortMemoryRight-iff : (file : List ℕ) (result work : ℕ) → (sortMemoryRight file result work ≡ true) ↔ SortRoom file result work
-sortMemoryRight-iff file result work = and-iff _ _ (leb-iff (length file) result) (leb-iff sortWorkBytes work)
+sortMemoryRight-iff file result work = and-iff _ _ (leb-iff (length file) result) (leb-iff (rowWorkBytes (length (netlistOf file))) work)
 
 pub loop-means : (rows : List Row) (i : ℕ) → ItemMeans (loopQuestion rows i) i (ask 22 i (LoopFree rows i) ∷ [])
 loop-means rows i = record {

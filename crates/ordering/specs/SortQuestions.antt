@@ -7,7 +7,7 @@ use mathlib.Core.Bool.{Bool, cond, not, _&&_}
 use mathlib.Core.List.{List, [], _∷_}
 use lib.ListN.{length}
 use lib.Dec.{leb}
-use Rattle.netlist.specs.Limits.{sortWorkBytes}
+use Rattle.netlist.specs.Limits.{rowWorkBytes}
 use Rattle.netlist.specs.Rows.{Row, rowAt}
 use Rattle.netlist.specs.FileFormat.{netlistOf}
 use Rattle.questions.specs.Questions.{Refusal, firstRefusal, question, itemQuestions, unorderedRefusal}
@@ -22,7 +22,7 @@ loopRefusal rows = itemQuestions (length rows) (loopQuestion rows)
 
 -- 23, of the file and the lengths of result and work.
 abbrev pub sortMemoryRight : List ℕ → ℕ → ℕ → Bool
-sortMemoryRight file result work = leb (length file) result && leb sortWorkBytes work
+sortMemoryRight file result work = leb (length file) result && leb (rowWorkBytes (length (netlistOf file))) work
 
 unfoldable pub sortRefusal : List ℕ → ℕ → ℕ → Refusal
 sortRefusal file result work = firstRefusal (unorderedRefusal file ∷ question 23 (sortMemoryRight file result work) ∷ loopRefusal (netlistOf file) ∷ [])

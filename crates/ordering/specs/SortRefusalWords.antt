@@ -7,15 +7,15 @@ use mathlib.Core.Bool.{true}
 use mathlib.Core.List.{List, [], _∷_, _++_}
 use lib.ListN.{length}
 use Rattle.memory.specs.Lists.{joinBelow}
-use Rattle.netlist.specs.Limits.{sortWorkBytes}
+use Rattle.netlist.specs.Limits.{rowWorkBytes}
 use Rattle.netlist.specs.Rows.{Row, rowAt}
 use Rattle.netlist.specs.FileFormat.{netlistOf}
 use Rattle.questions.specs.RefusalWords.{Asked, ask, askedOfUnordered}
 use Rattle.ordering.specs.GateOrder.{isGate, Grounded}
 
--- 23: the result holds the file, and work is long enough.
+-- 23: the result holds the file, and work is long enough for its rows.
 abbrev pub SortRoom : List ℕ → ℕ → ℕ → Type 0
-SortRoom file result work = (length file ≤ result) × (sortWorkBytes ≤ work)
+SortRoom file result work = (length file ≤ result) × (rowWorkBytes (length (netlistOf file)) ≤ work)
 
 -- 22, of row i: if it is a gate, it is neither in a loop of gates nor behind one.
 abbrev pub LoopFree : List Row → ℕ → Type 0

@@ -158,7 +158,7 @@ fn say_waiting_gate(source: &[u8], text: &[u8], row: usize) {
 fn say_many_rows(source: &[u8], text: &[u8]) {
     say_where(source, 1);
     say(
-        b"the header counts # rows with the constant, and a file has at most 8064",
+        b"the header counts # rows with the constant, and a file has at most 32256",
         one(aiger_faults::count_rows(text)),
     );
 }

@@ -4,11 +4,12 @@ use listing::rows::last_block;
 use text::bytes::get;
 use text::bytes::least;
 use text::bytes::wide;
+use text::out::three;
 use text::out::two;
 
 // The block's bytes.
 fn block_at<'a>(file: &'a [u8], block: usize) -> &'a [u8] {
-    let number = least(block, 128);
+    let number = least(block, 512);
     let start = least(512 * number, file.len());
     let rest = file.len() - start;
     let end = start + least(512, rest);
@@ -26,6 +27,9 @@ fn sum_of(block: &[u8]) -> usize {
 // Whether a netlist file may begin with these bytes: mark, number and sum of the first block are right.
 pub fn is_first_block(bytes: &[u8]) -> bool {
     if get(bytes, 1) != 0 {
+        return false;
+    }
+    if get(bytes, 3) != 0 {
         return false;
     }
     match get(bytes, 0) {
@@ -51,12 +55,15 @@ fn mark_of(file: &[u8], number: usize) -> usize {
 // 3
 fn say_head(block: &[u8], number: usize, mark: usize) {
     let first = wide(get(block, 0));
-    let second = wide(get(block, 1));
-    let last = wide(get(block, 3));
-    let numbers = [number, first, second, last, mark, number];
+    let low = wide(get(block, 1));
+    let high = wide(get(block, 3));
     say(
-        b"block #: bytes 0, 1 and 3 are #, # and #, and should be #, # and 0",
-        numbers,
+        b"block #: bytes 0, 1 and 3 are #, # and #",
+        [number, first, low, high, 0, 0],
+    );
+    say(
+        b", and should be #, # and #",
+        three(mark, number % 256, number / 256 % 256),
     );
 }
 

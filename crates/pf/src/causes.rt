@@ -18,17 +18,17 @@ use text::bytes::same;
 use text::out::one;
 use text::out::two;
 
-const MOST_FILE_BYTES: usize = 65536;
+const MOST_FILE_BYTES: usize = 262144;
 
 // 1
 fn say_length(file: &[u8]) {
     let size = file.len();
     if MOST_FILE_BYTES < size {
-        say_text(b"the file has more than 65536");
+        say_text(b"the file has more than 262144");
     } else {
         say(b"the file has #", one(size));
     }
-    say_text(b" bytes, and a netlist file has 1 to 128 blocks of 512");
+    say_text(b" bytes, and a netlist file has 1 to 512 blocks of 512");
 }
 
 // 11

@@ -1,4 +1,6 @@
 // Import: an AIGER text, made a netlist file and kept.
+ghost use mathlib.Core.Path.{_≡_};
+ghost use lib.ListN.{length};
 use crate::aiger_causes::say_aiger_cause;
 use crate::outcome::Outcome;
 use crate::outcome::done_with;
@@ -6,16 +8,30 @@ use crate::outcome::fail_by_cause;
 use crate::outcome::say;
 use crate::outcome::say_where;
 use crate::outcome::tell_refusal;
+use crate::saving::result_room;
 use crate::saving::save;
 use c_answers::PfRefusal;
 use c_answers::PfWritten;
-use listing::folds::work_room;
 use listing::rows::MOST_ROWS;
 use listing::rows::file_bytes;
 use text::both;
 use text::bytes::first;
 use text::files::Loaded;
 use text::out::one;
+
+// Room for each text whose rows fit a file: its header has at most 59 bytes, and each of 32,255 lines at most 33.
+fn text_room() -> [u8; 1114112]
+    ensures { λ r. ⌜ 1114112 ≡ length r ⌝ }
+{
+    [0; 1114112]
+}
+
+// Work for an import.
+fn work_room() -> [u8; 196608]
+    ensures { λ r. ⌜ 196608 ≡ length r ⌝ }
+{
+    [0; 196608]
+}
 
 // The file that stands in `result` is kept.
 fn keep_imported(written: PfWritten, result: &[u8], kept: &[u8]) -> Outcome {
@@ -40,7 +56,7 @@ fn refuse_import(source: &[u8], text: &[u8], written: PfWritten) -> Outcome {
 fn fail_longer(source: &[u8], rows: usize) -> Outcome {
     say_where(source, 0);
     say(
-        b"longer than 1048576 bytes, and its header counts # rows, a file has at most 8064\n",
+        b"longer than 1114112 bytes, and its header counts # rows, a file has at most 32256\n",
         one(rows),
     );
     Outcome::Failed
@@ -67,7 +83,7 @@ fn tell_import(
 
 // The text's file, in lent memory.
 fn import_text(source: &[u8], text: &[u8], longer: bool, kept: &[u8]) -> Outcome {
-    let mut result = io::large_buffer();
+    let mut result = result_room();
     let mut work = work_room();
     let written = phasefold::c_import::pf_import(text, &mut result, &mut work);
     tell_import(source, text, longer, kept, written, &result)
@@ -84,6 +100,6 @@ fn import_from(source: &[u8], kept: &[u8], room: &mut [u8]) -> Outcome {
 
 // A netlist file at `kept` from the AIGER text in the file `source`.
 pub fn import(source: &[u8], kept: &[u8]) -> Outcome {
-    let mut room = text::files::long_room();
+    let mut room = text_room();
     import_from(source, kept, &mut room)
 }

@@ -18,6 +18,7 @@ use crate::parse::line_of;
 use crate::parse::read_text;
 use crate::parse::word_of;
 use crate::row_causes::say_row_cause;
+use crate::saving::result_room;
 use crate::saving::save;
 use c_answers::PfRefusal;
 use listing::rows::MOST_ROWS;
@@ -86,7 +87,7 @@ fn say_wrong(text: &[u8], at: usize, numbers: &[u32], rows: usize, wrong: Wrong)
         Wrong::Kind => say_large_byte(b"the kind", number_at(numbers, 1)),
         Wrong::Reset => say_large_byte(b"the reset", number_at(numbers, 2)),
         Wrong::Field => say_wrong_field(numbers),
-        Wrong::Rows => say_text(b"a file has at most 8064 rows"),
+        Wrong::Rows => say_text(b"a file has at most 32256 rows"),
     }
 }
 
@@ -202,7 +203,7 @@ fn make_in_room(source: &[u8], text: &[u8], path: &[u8]) -> Outcome {
             b"this is an AIGER text, of which pf import makes a netlist file\n",
         );
     }
-    let mut result = io::large_buffer();
+    let mut result = result_room();
     make_file(source, text, path, &mut result)
 }
 

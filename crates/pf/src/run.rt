@@ -28,11 +28,11 @@ use text::out::put_byte;
 use text::out::to;
 use text::out::two;
 
-// Work for a run, or for a sort.
-pub fn work_room() -> [u8; 16384]
-    ensures { λ r. ⌜ 16384 ≡ length r ⌝ }
+// Work for a run, or for a sort, of any file.
+pub fn work_room() -> [u8; 65536]
+    ensures { λ r. ⌜ 65536 ≡ length r ⌝ }
 {
-    [0; 16384]
+    [0; 65536]
 }
 
 // ---- values

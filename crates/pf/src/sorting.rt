@@ -3,6 +3,7 @@ use crate::causes::refuse;
 use crate::outcome::Outcome;
 use crate::outcome::done_with;
 use crate::run::work_room;
+use crate::saving::result_room;
 use crate::saving::save;
 use c_answers::PfRefusal;
 use c_answers::PfWritten;
@@ -33,7 +34,7 @@ fn sort_into(file: &[u8], result: &mut [u8]) -> PfWritten {
 
 // The file sorted, and where the result is kept; or the refusal.
 pub fn sort(path: &[u8], file: &[u8], kept: &[u8]) -> Outcome {
-    let mut result = io::large_buffer();
+    let mut result = result_room();
     let written = sort_into(file, &mut result);
     if written.number == 0 {
         keep_sorted(written, first(&result, file.len()), kept)

@@ -94,8 +94,8 @@ module _ (k B : ℕ) (b : List ℕ) where
       record {
         sum = sumRight-iff k B b .0 (s .0);
         mark = head .mark;
-        number = head .number;
-        zero-byte = head .zero-byte;
+        number-low = head .number-low;
+        number-high = head .number-high;
         count-last = count .last;
         count-other = count .other;
         unused = unusedRight-iff k B b .0 (passed (unusedRight b) _ _ (c .1) .0);
@@ -105,7 +105,7 @@ module _ (k B : ℕ) (b : List ℕ) where
   unfolding blockQuestions
   block-yes w =
       passed-of _ _ _ (sumRight-iff k B b .1 (w .sum))
-      (passed-of _ _ _ (headRight-iff k B b .1 (record { mark = w .mark; number = w .number; zero-byte = w .zero-byte }))
+      (passed-of _ _ _ (headRight-iff k B b .1 (record { mark = w .mark; number-low = w .number-low; number-high = w .number-high }))
       (passed-of _ _ _ (countRight-iff k B b .1 (record { last = w .count-last; other = w .count-other })) (passed-of _ _ _ (unusedRight-iff k B b .1 (w .unused)) refl)))
 
 -- Questions 1 to 10 are answered with yes.

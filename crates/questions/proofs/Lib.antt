@@ -8,3 +8,4 @@ pub mod ShapePasses
 pub mod PrefixLaws
 pub mod WriteThenRead
 pub mod ReadThenWrite
+pub mod SameNetlists

@@ -15,9 +15,9 @@ use Rattle.memory.specs.Lists.{countIf}
 use Rattle.memory.specs.Fields.{byteAt}
 use Rattle.memory.proofs.TestLaws.{and-true, leb-iff, ltb-iff, eqb-iff, not-iff, none-iff, and-iff, or-iff, cond-iff}
 use Rattle.memory.proofs.ListLaws.{allBelow-iff, count-pos, count-some}
-use Rattle.netlist.specs.Limits.{mostFileBytes, mostPhases, runWorkBytes}
+use Rattle.netlist.specs.Limits.{mostFileBytes, mostPhases, rowWorkBytes}
 use Rattle.netlist.specs.Rows.{Row, constant, input, register, andGate, xorGate, muxGate, output, RowFields, encodeRow, rowFromFields, rowAt, kindOf, labelOf, phaseOf, hasName, isInput, isUnknown, isOutput}
-use Rattle.netlist.specs.FileFormat.{wordSum, rightSum, fieldsAt}
+use Rattle.netlist.specs.FileFormat.{lowByte, highByte, wordSum, rightSum, fieldsAt}
 use Rattle.netlist.proofs.RowLaws.{named-is, named-of}
 use Rattle.netlist.specs.WellFormed.{SameName, ResetIn, NamesNode, OnLiterals}
 use Rattle.questions.specs.Questions.{lengthRight, sumRight, headRight, countRight, unusedRight, kindRight, fieldsRight, sameName, labelIsNew, namesNode, namesEarlier, namesAnywhere, literalsRight, valueListsRight, allBinary, runMemoryRight}
@@ -37,8 +37,8 @@ module _ (k B : ℕ) (b : List ℕ) where
   pub record BlockWords : Type 0 where
     pub sum : SumWords b
     pub mark : MarkWords k B b
-    pub number : byteAt b 1 ≡ B
-    pub zero-byte : byteAt b 3 ≡ 0
+    pub number-low : byteAt b 1 ≡ lowByte B
+    pub number-high : byteAt b 3 ≡ highByte B
     pub count-last : suc B ≡ k → (1 ≤ rowsSaid b) × (rowsSaid b ≤ 63)
     pub count-other : ¬ (suc B ≡ k) → rowsSaid b ≡ 63
     pub unused : UnusedWords b
@@ -48,8 +48,8 @@ module _ (k B : ℕ) (b : List ℕ) where
 
   pub headRight-iff : (headRight k B b ≡ true) ↔ HeadWords k B b
   headRight-iff =
-      Iff·trans (and-iff _ _ (and-iff _ _ (eqb-iff (byteAt b 0) _) (eqb-iff (byteAt b 1) B)) (eqb-iff (byteAt b 3) 0))
-      (λ w. record { mark = w .0 .0; number = w .0 .1; zero-byte = w .1 }, λ w. ((w .mark, w .number), w .zero-byte))
+      Iff·trans (and-iff _ _ (and-iff _ _ (eqb-iff (byteAt b 0) _) (eqb-iff (byteAt b 1) (lowByte B))) (eqb-iff (byteAt b 3) (highByte B)))
+      (λ w. record { mark = w .0 .0; number-low = w .0 .1; number-high = w .1 }, λ w. ((w .mark, w .number-low), w .number-high))
 
   pub countRight-iff : (countRight k B b ≡ true) ↔ CountWords k B b
   countRight-iff =
@@ -180,4 +180,4 @@ pub allBinary-iff : (vs : List ℕ) → (allBinary vs ≡ true) ↔ BinaryWords 
 allBinary-iff vs = allBelow-iff (length vs) _ (λ i. leb-iff (byteAt vs i) 1)
 
 pub runMemoryRight-iff : (rows : List Row) (T result work : ℕ) → (runMemoryRight rows T result work ≡ true) ↔ RoomWords rows T result work
-runMemoryRight-iff rows T result work = and-iff _ _ (leb-iff (T * countIf isOutput rows) result) (leb-iff runWorkBytes work)
+runMemoryRight-iff rows T result work = and-iff _ _ (leb-iff (T * countIf isOutput rows) result) (leb-iff (rowWorkBytes (length rows)) work)

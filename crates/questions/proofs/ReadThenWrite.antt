@@ -94,9 +94,9 @@ module _ (file : List ℕ) (ok : fileRefusal file .number ≡ 0) where
 
       body-byte : (o : ℕ) → o < 508 → Same o
       body-byte zero l = block-head K B part (part-small rows B) .0 ∙ sym (right .blocks B h .mark)
-      body-byte (suc zero) l = block-head K B part (part-small rows B) .1 ∙ sym (right .blocks B h .number)
+      body-byte (suc zero) l = block-head K B part (part-small rows B) .1 ∙ sym (right .blocks B h .number-low)
       body-byte (suc (suc zero)) l = block-head K B part (part-small rows B) .2 ∙ part-is B h
-      body-byte (suc (suc (suc zero))) l = block-head K B part (part-small rows B) .3 ∙ sym (right .blocks B h .zero-byte)
+      body-byte (suc (suc (suc zero))) l = block-head K B part (part-small rows B) .3 ∙ sym (right .blocks B h .number-high)
       body-byte (suc (suc (suc (suc y)))) l = elim (decLt (y / 8) (length part)) [
         | yes m ↦ (let e : 4 + (8 * (y / 8) + y % 8) ≡ suc (suc (suc (suc y))) = omega arith in subst Same e (row-byte (y / 8) (y % 8) m (omega arith)))
         | no m ↦

@@ -37,8 +37,8 @@ module _ (rs : List Row) (some-rows : 1 ≤ length rs) (few : length rs ≤ most
         record {
           sum = block-sum k B part small;
           mark = head .0;
-          number = head .1;
-          zero-byte = head .3;
+          number-low = head .1;
+          number-high = head .3;
           count-last = λ l. (omega arith, omega arith);
           count-other = λ l. (let m : suc B < k = not-last l in omega arith);
           unused = λ i l.
@@ -91,4 +91,4 @@ module _ (rows : List Row) (w : Writable rows) where
   writable-accepted = file-accepted rows some-rows (w .few) fits right
 
   pub writable-bytes : IsBytes (fileOf rows)
-  writable-bytes = file-is-bytes rows (w .few) (λ i h. reset-small (rowAt rows i) (checked .resets i h))
+  writable-bytes = file-is-bytes rows (λ i h. reset-small (rowAt rows i) (checked .resets i h))

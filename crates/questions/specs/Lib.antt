@@ -3,3 +3,4 @@ pub mod Questions
 pub mod QuestionWords
 pub mod RefusalWords
 pub mod RoundTrips
+pub mod OldFiles

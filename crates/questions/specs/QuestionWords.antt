@@ -8,9 +8,9 @@ use mathlib.Core.List.{List}
 use lib.ListN.{length}
 use Rattle.memory.specs.Lists.{countIf}
 use Rattle.memory.specs.Fields.{byteAt}
-use Rattle.netlist.specs.Limits.{mostBlocks, mostPhases, runWorkBytes}
+use Rattle.netlist.specs.Limits.{mostBlocks, mostPhases, rowWorkBytes}
 use Rattle.netlist.specs.Rows.{Row, encodeRow, rowFromFields, rowAt, phaseOf, hasName, isInput, isUnknown, isOutput}
-use Rattle.netlist.specs.FileFormat.{lastMark, wordSum, rightSum, blockCount}
+use Rattle.netlist.specs.FileFormat.{lastMark, lowByte, highByte, wordSum, rightSum, blockCount}
 use Rattle.netlist.specs.WellFormed.{SameName, ResetIn, NamesNode, OnLiterals}
 
 -- ---- 1 to 5: the length, and block B of k, b its 512 bytes
@@ -29,11 +29,11 @@ SumWords b = wordSum b 128 % 2 ^ 32 ≡ rightSum
 abbrev pub MarkWords : ℕ → ℕ → List ℕ → Type 0
 MarkWords k B b = byteAt b 0 ≡ lastMark k B
 
--- 3: bytes 0, 1 and 3.
+-- 3: bytes 0, 1 and 3; the last two are the block's number.
 pub record HeadWords (k B : ℕ) (b : List ℕ) : Type 0 where
   pub mark : MarkWords k B b
-  pub number : byteAt b 1 ≡ B
-  pub zero-byte : byteAt b 3 ≡ 0
+  pub number-low : byteAt b 1 ≡ lowByte B
+  pub number-high : byteAt b 3 ≡ highByte B
 
 -- How many rows the block says that it has.
 abbrev pub rowsSaid : List ℕ → ℕ
@@ -93,6 +93,6 @@ ListsWords rows T choices inputs = (length choices ≡ countIf isUnknown rows) �
 abbrev pub BinaryWords : List ℕ → Type 0
 BinaryWords vs = (i : ℕ) → i < length vs → byteAt vs i ≤ 1
 
--- 20: the result holds T times a byte for each output, and work is long enough.
+-- 20: the result holds T times a byte for each output, and work is long enough for the rows.
 abbrev pub RoomWords : List Row → ℕ → ℕ → ℕ → Type 0
-RoomWords rows T result work = (T * countIf isOutput rows ≤ result) × (runWorkBytes ≤ work)
+RoomWords rows T result work = (T * countIf isOutput rows ≤ result) × (rowWorkBytes (length rows) ≤ work)

@@ -9,9 +9,9 @@ use lib.ListN.{length}
 use lib.Dec.{eqb, ltb, leb}
 use Rattle.memory.specs.Lists.{allBelow, firstFrom, countIf}
 use Rattle.memory.specs.Fields.{byteAt}
-use Rattle.netlist.specs.Limits.{mostFileBytes, mostPhases, mostSteps, runWorkBytes}
+use Rattle.netlist.specs.Limits.{mostFileBytes, mostPhases, mostSteps, rowWorkBytes}
 use Rattle.netlist.specs.Rows.{Row, constant, input, register, andGate, xorGate, muxGate, output, RowFields, decodeRow, rowAt, kindOf, labelOf, phaseOf, hasName, isNamed, isInput, isRegister, isUnknown, isOutput}
-use Rattle.netlist.specs.FileFormat.{lastMark, wordSum, rightSum, blockCount, blockAt, fieldsOf, fieldsAt, netlistOf}
+use Rattle.netlist.specs.FileFormat.{lastMark, lowByte, highByte, wordSum, rightSum, blockCount, blockAt, fieldsOf, fieldsAt, netlistOf}
 
 -- A refusal; number 0 is none, and its place is 0.
 pub record Refusal : Type 0 where
@@ -47,7 +47,7 @@ abbrev pub sumRight : List ℕ → Bool
 sumRight b = eqb (wordSum b 128 % 2 ^ 32) rightSum
 
 abbrev pub headRight : ℕ → ℕ → List ℕ → Bool
-headRight k B b = eqb (byteAt b 0) (lastMark k B) && eqb (byteAt b 1) B && eqb (byteAt b 3) 0
+headRight k B b = eqb (byteAt b 0) (lastMark k B) && eqb (byteAt b 1) (lowByte B) && eqb (byteAt b 3) (highByte B)
 
 -- 63 rows, and in the last block 1 to 63.
 abbrev pub countRight : ℕ → ℕ → List ℕ → Bool
@@ -138,7 +138,7 @@ abbrev pub allBinary : List ℕ → Bool
 allBinary vs = allBelow (length vs) (λ i. leb (byteAt vs i) 1)
 
 abbrev pub runMemoryRight : List Row → ℕ → ℕ → ℕ → Bool
-runMemoryRight rows T result work = leb (T * countIf isOutput rows) result && leb runWorkBytes work
+runMemoryRight rows T result work = leb (T * countIf isOutput rows) result && leb (rowWorkBytes (length rows)) work
 
 -- 17 to 20: what Run asks of a netlist's rows.
 abbrev pub stepQuestions : List Row → ℕ → List ℕ → List ℕ → ℕ → ℕ → List Refusal

@@ -4,6 +4,8 @@ use crate::bytes::byte;
 use crate::bytes::field;
 use crate::bytes::number;
 use crate::bytes::put_number;
+use crate::rows::BLOCK_BOUND;
+use crate::rows::MOST_BYTES;
 use crate::rows::Row;
 use crate::rows::kind_at;
 use crate::rows::node_of;
@@ -30,7 +32,7 @@ fn length_right(file: &[u8]) -> bool {
     let size = file.len();
     let whole = size % 512 == 0;
     let some = size >= 512;
-    let most = size <= 65536;
+    let most = size <= MOST_BYTES;
     whole && some && most
 }
 
@@ -52,13 +54,14 @@ fn sum_of(file: &[u8], start: usize) -> u64 {
     sum % 4294967296
 }
 
+// Bytes 1 and 3 together, the low one first, are the block's number.
 fn head_right(file: &[u8], block: usize, last: bool) -> bool {
-    let start = 512 * (block % 128);
+    let start = 512 * (block % BLOCK_BOUND);
     let mark = if last { 2 } else { 1 };
+    let low = byte(file, start + 1) as usize;
+    let high = byte(file, start + 3) as usize;
     let first = byte(file, start) == mark;
-    let second = byte(file, start + 1) as usize == block;
-    let fourth = byte(file, start + 3) == 0;
-    first && second && fourth
+    first && low + 256 * high == block
 }
 
 fn count_right(count: u8, last: bool) -> bool {
@@ -82,7 +85,7 @@ fn zero_between(file: &[u8], start: usize, end: usize) -> bool {
 
 // The number of the block's first no, or 0.
 fn block_no(file: &[u8], block: usize, last: bool) -> u32 {
-    let start = 512 * (block % 128);
+    let start = 512 * (block % BLOCK_BOUND);
     if sum_of(file, start) != 4294967295 {
         return 2;
     }
@@ -247,7 +250,7 @@ fn ask_rows(file: &[u8], rows: usize, keys: &mut [u32], any_order: bool) -> Verd
 // ---- all
 
 fn ask_all_rows(file: &[u8], rows: usize, any_order: bool) -> Verdict {
-    let mut room = [0u32; 8064];
+    let mut room = crate::rooms::row_numbers();
     let keys: &mut [u32] = &mut room;
     ask_rows(file, rows, keys, any_order)
 }

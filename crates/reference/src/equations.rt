@@ -214,8 +214,8 @@ pub fn run(
     table: &mut [u32],
     names: &mut [u32],
 ) {
-    let mut held_room = [0u8; 8192];
-    let mut values_room = [0u8; 8192];
+    let mut held_room = crate::rooms::row_bytes();
+    let mut values_room = crate::rooms::row_bytes();
     let held: &mut [u8] = &mut held_room;
     let values: &mut [u8] = &mut values_room;
     let lines = crate::lines::put_text(text, table);

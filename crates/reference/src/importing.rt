@@ -5,6 +5,8 @@ use crate::bytes::after;
 use crate::bytes::number;
 use crate::bytes::put_number;
 use crate::lines::cell;
+use crate::rows::MOST_BYTES;
+use crate::rows::MOST_ROWS;
 use crate::rows::Row;
 use crate::rows::put_row;
 use crate::sorting::Sorted;
@@ -12,6 +14,9 @@ use crate::sorting::refused;
 
 // The answer to a text of more lines than the table has room for.
 pub const TOO_LONG: u32 = 255;
+
+// What is lent for every text, besides a result for the most bytes.
+const LEAST_WORK: usize = 196608;
 
 // The header's numbers.
 pub struct Heading {
@@ -269,7 +274,7 @@ fn sort_text(
     names: &[u32],
     result: &mut [u8],
 ) -> Sorted {
-    let mut room = [0u8; 65536];
+    let mut room = crate::rooms::file_bytes();
     let file: &mut [u8] = &mut room;
     put_rows(table, heading, count, names, file);
     crate::sorting::sort_rows(file, after(count), result)
@@ -306,7 +311,7 @@ fn import_text(text: &[u8], table: &mut [u32], names: &mut [u32], result: &mut [
     if asked != 0 {
         return refused(said(asked, 0));
     }
-    if after(lines.count) > 8064 {
+    if after(lines.count) > MOST_ROWS {
         return refused(said(25, 0));
     }
     sort_text(table, heading, lines.count, names, result)
@@ -322,7 +327,7 @@ pub fn import(
     work: &mut [u8],
 ) -> Sorted {
     crate::bytes::empty(work);
-    let short = result.len() < 65536 || work.len() < 49152;
+    let short = result.len() < MOST_BYTES || work.len() < LEAST_WORK;
     if short {
         return refused(said(23, 0));
     }

@@ -1,4 +1,4 @@
-// A second folder, a second sorter and a second importer, written from the texts alone, to hold the product against. Nothing here is shared with it.
+// A second folder, sorter, importer and simulator, written from the texts alone, to hold the product against. Nothing here is shared with it.
 pub mod asking;
 mod bytes;
 mod clocks;
@@ -8,7 +8,9 @@ mod images;
 pub mod importing;
 mod lines;
 mod made;
+mod rooms;
 pub mod rows;
+pub mod running;
 pub mod sorting;
 mod states;
 pub mod steps;
@@ -141,9 +143,9 @@ fn look(
 
 // The folded file in the result; the answer is how many rows it has.
 fn put_folded(file: &[u8], rows: usize, fixed: &[u16], phases: usize, result: &mut [u8]) -> usize {
-    let mut images_room = [0u16; 8064];
-    let mut made_room = [0u16; 40960];
-    let mut marks_room = [0u16; 8192];
+    let mut images_room = rooms::image_words();
+    let mut made_room = rooms::made_words();
+    let mut marks_room = rooms::mark_words();
     let images: &mut [u16] = &mut images_room;
     let made: &mut [u16] = &mut made_room;
     let marks: &mut [u16] = &mut marks_room;
@@ -154,7 +156,7 @@ fn put_folded(file: &[u8], rows: usize, fixed: &[u16], phases: usize, result: &m
 }
 
 fn fold_asked(file: &[u8], wish: u32, result: &mut [u8], list: &mut [u32]) -> Folded {
-    let mut states_room = [0u8; 65792];
+    let mut states_room = rooms::state_bytes();
     let mut fixed_room = [0u16; 1008];
     let states: &mut [u8] = &mut states_room;
     let fixed: &mut [u16] = &mut fixed_room;

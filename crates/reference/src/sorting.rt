@@ -10,6 +10,7 @@ use crate::rows::kind_at;
 use crate::rows::put_row;
 use crate::rows::row_at;
 use crate::rows::rows_of;
+use crate::rows::work_for;
 
 // A refusal, or number 0 and how many rows the sorted file has.
 pub struct Sorted {
@@ -126,7 +127,7 @@ pub fn refused(verdict: Verdict) -> Sorted {
 
 // The sorted file of these rows, with nothing else asked.
 pub fn sort_rows(file: &[u8], rows: usize, result: &mut [u8]) -> Sorted {
-    let mut room = [0u16; 8192];
+    let mut room = crate::rooms::row_words();
     let numbers: &mut [u16] = &mut room;
     place_all(file, rows, numbers);
     let left = lowest_left(file, rows, numbers);
@@ -150,9 +151,10 @@ pub fn sort(file: &[u8], result: &mut [u8], work: &mut [u8]) -> Sorted {
     if verdict.number != 0 {
         return refused(verdict);
     }
-    let short = result.len() < file.len() || work.len() < 16384;
+    let rows = rows_of(file);
+    let short = result.len() < file.len() || work.len() < work_for(rows);
     if short {
         return refused(said(23, 0));
     }
-    sort_rows(file, rows_of(file), result)
+    sort_rows(file, rows, result)
 }

@@ -9,7 +9,7 @@ use crate::values::gate_value;
 use crate::values::literal_value;
 
 // Whether the row is a register that starts unknown.
-fn chosen(row: Row) -> bool {
+pub fn chosen(row: Row) -> bool {
     let register = row.kind == 2;
     register && row.reset == 2
 }
@@ -152,8 +152,8 @@ fn run_steps(
 }
 
 pub fn run(file: &[u8], steps: usize, choices: &[u8], inputs: &[u8], shown: &mut [u8]) {
-    let mut held_room = [0u8; 8192];
-    let mut values_room = [0u8; 8192];
+    let mut held_room = crate::rooms::row_bytes();
+    let mut values_room = crate::rooms::row_bytes();
     let held: &mut [u8] = &mut held_room;
     let values: &mut [u8] = &mut values_room;
     run_steps(file, steps, choices, inputs, shown, held, values);

@@ -5,6 +5,8 @@ use crate::bytes::put_byte;
 use crate::bytes::put_field;
 use crate::bytes::word;
 use crate::made::made_row;
+use crate::rows::BLOCK_BOUND;
+use crate::rows::ROW_BOUND;
 use crate::rows::put_row;
 
 // A row with no mark goes.
@@ -39,7 +41,7 @@ fn column(file: &[u8], start: usize, k: usize) -> u32
 
 // The check word that makes the block's sum right: what is left to 2 to the 32, less 1.
 pub fn seal(file: &mut [u8], block: usize) {
-    let start = 512 * (block % 129);
+    let start = 512 * (block % BLOCK_BOUND);
     let low = column(file, start, 0) + 256 * column(file, start, 1);
     let high = column(file, start, 2) + 256 * column(file, start, 3);
     let sum = low as u64 + 65536 * high as u64;
@@ -52,22 +54,24 @@ pub fn seal(file: &mut [u8], block: usize) {
 
 // The head of a block of a file that has `rows` rows.
 fn put_head(file: &mut [u8], block: usize, rows: usize) {
-    let start = 512 * (block % 129);
-    let before = 63 * (block % 129);
+    let start = 512 * (block % BLOCK_BOUND);
+    let before = 63 * (block % BLOCK_BOUND);
     let left = std::num::wrapping_sub_usize(rows, before);
     let last = left <= 63;
     let mark = if last { 2 } else { 1 };
     let count = if last { left } else { 63 };
-    let number = (block % 256) as u8;
+    let low = (block % 256) as u8;
+    let high = (block / 256 % 256) as u8;
     let rows_here = (count % 64) as u8;
     put_byte(file, start, mark);
-    put_byte(file, start + 1, number);
+    put_byte(file, start + 1, low);
     put_byte(file, start + 2, rows_here);
+    put_byte(file, start + 3, high);
 }
 
 // Heads and check words; the answer is the file's length.
 pub fn close(file: &mut [u8], rows: usize) -> usize {
-    let blocks = (rows % 8128 + 62) / 63;
+    let blocks = (rows % ROW_BOUND + 62) / 63;
     'through: for block in 0..blocks {
         put_head(file, block, rows);
         seal(file, block);

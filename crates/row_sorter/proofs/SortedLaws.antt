@@ -10,10 +10,11 @@ use lib.Dec.{ltb}
 use borrow.Author.Tests.{lt-ltb, le-ltb, ltb-true}
 use Rattle.memory.specs.Lists.{firstFrom}
 use Rattle.memory.proofs.ListLaws.{first-is}
-use Rattle.netlist.specs.Limits.{sortWorkBytes}
+use Rattle.netlist.specs.Limits.{rowWorkBytes}
 use Rattle.netlist.specs.Rows.{Row}
 use Rattle.netlist.specs.FileFormat.{blocksFor, fileOf, fileIn}
 use Rattle.netlist.proofs.FileLaws.{file-length}
+use Rattle.netlist.proofs.WorkLaws.{work-holds}
 use Rattle.questions.specs.Questions.{noRefusal}
 use Rattle.ordering.specs.GateOrder.{sortedNetlist}
 use Rattle.ordering.specs.SortQuestions.{loopQuestion, loopRefusal}
@@ -51,11 +52,11 @@ module _ (layout : Layout) (s : List ℕ) (n : ℕ) (S : Source layout s n) wher
   pub users-room : (result : List ℕ) → 512 * blocksFor n ≤ length result → 8 * n ≤ length result
   users-room result h = omega (arith, h)
 
-  pub marks-room : (slots : List ℕ) → sortWorkBytes ≤ length slots → 2 * n + (n + 63) / 64 ≤ length slots
-  marks-room slots h = omega (arith, h, S .few)
+  pub marks-room : (slots : List ℕ) → rowWorkBytes n ≤ length slots → 2 * n + (n + 63) / 64 ≤ length slots
+  marks-room slots h = omega (arith, h, work-holds n (S .few))
 
-  pub slots-fit : (w₀ w : List ℕ) → sortWorkBytes ≤ length w₀ → length w ≡ length w₀ → 2 * n ≤ length w
-  slots-fit w₀ w h e = omega (arith, h, e, S .few)
+  pub slots-fit : (w₀ w : List ℕ) → rowWorkBytes n ≤ length w₀ → length w ≡ length w₀ → 2 * n ≤ length w
+  slots-fit w₀ w h e = omega (arith, h, e, work-holds n (S .few))
 
 -- The sorter's answer, and the result that it leaves, in the words of 22.
 module _ (layout : Layout) (s : List ℕ) (n : ℕ) (result result′ : List ℕ) (first : ℕ) where

@@ -6,7 +6,7 @@ ghost use Prim.Native.Nat.{_*_, _<_, _≤_};
 ghost use lib.ListN.{length};
 ghost use lib.Dec.{ltb};
 ghost use Rattle.memory.specs.Lists.{firstFrom};
-ghost use Rattle.netlist.specs.Limits.{sortWorkBytes};
+ghost use Rattle.netlist.specs.Limits.{rowWorkBytes};
 ghost use Rattle.netlist.specs.FileFormat.{blocksFor, fileIn};
 ghost use Rattle.questions.specs.Questions.{noRefusal};
 ghost use Rattle.ordering.specs.GateOrder.{sortedNetlist};
@@ -72,7 +72,7 @@ fn place_rows(source: &[u8], layout: Layout, result: &mut [u8], slots: &[u8], ro
 // The sorted file, where every gate can be placed: the second pass and the third.
 fn write_sorted(source: &[u8], layout: Layout, result: &mut [u8], slots: &mut [u8], rows: usize)
     requires { ⌜ Source layout (now source) rows × (loopRefusal (sourceRows layout (now source)) ≡ noRefusal) ⌝ }
-    requires { ⌜ (512 * blocksFor rows ≤ length (now result)) × (sortWorkBytes ≤ length (now slots)) ⌝ }
+    requires { ⌜ (512 * blocksFor rows ≤ length (now result)) × (rowWorkBytes rows ≤ length (now slots)) ⌝ }
     ensures { λ _. ⌜ now (result .exit) ≡ fileIn (sortedNetlist (sourceRows layout (now (source .entry)))) (now (result .entry)) ⌝ }
     ensures { λ _. ⌜ length (now (slots .exit)) ≡ length (now (slots .entry)) ⌝ }
 {
@@ -89,7 +89,7 @@ pub fn sort_rows(
     slots: &mut [u8],
     rows: usize,
 ) -> usize
-    requires { ⌜ Source layout (now source) rows × ((512 * blocksFor rows ≤ length (now result)) × (sortWorkBytes ≤ length (now slots))) ⌝ }
+    requires { ⌜ Source layout (now source) rows × ((512 * blocksFor rows ≤ length (now result)) × (rowWorkBytes rows ≤ length (now slots))) ⌝ }
     ensures { λ r. ⌜ r ≡ firstFrom 0 rows (λ i. ltb 0 (loopQuestion (sourceRows layout (now (source .entry))) i)) ⌝ }
     ensures { λ r. ⌜ now (result .exit) ≡ cond (ltb r rows) (now (result .entry)) (fileIn (sortedNetlist (sourceRows layout (now (source .entry)))) (now (result .entry))) ⌝ }
     ensures { λ _. ⌜ length (now (slots .exit)) ≡ length (now (slots .entry)) ⌝ }

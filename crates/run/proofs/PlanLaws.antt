@@ -12,8 +12,8 @@ use lib.ListN.{length}
 use borrow.Author.Tests.{le-leb, lt-leb, not-true, not-false}
 use Rattle.memory.specs.Lists.{allBelow}
 use Rattle.memory.specs.Fields.{byteAt}
-use Rattle.netlist.specs.Limits.{mostRows, mostSteps, runWorkBytes}
-use Rattle.netlist.specs.Rows.{Row}
+use Rattle.netlist.specs.Limits.{mostRows, mostSteps, rowWorkBytes}
+use Rattle.netlist.specs.Rows.{Row, constant, isOutput}
 use Rattle.netlist.specs.FileFormat.{netlistOf}
 use Rattle.questions.specs.Questions.{Refusal, firstRefusal, question, fileRefusal, Counts, countsOf, valueListsRight, allBinary, runMemoryRight, runRefusal}
 use Rattle.questions.proofs.QuestionLaws.{list-yes, list-no}
@@ -24,6 +24,7 @@ use Rattle.accept.specs.declared.FileRefusal.{FileRefusal}
 use Rattle.accept.specs.declared.Acceptance.{Acceptance}
 use Rattle.accept.specs.declared.Acceptance.the-variants.{Accepted, Refused}
 use Rattle.accept.proofs.RefusalLaws.{file-passes, file-stops, accepted-counts}
+use Rattle.simulate.proofs.PlaceLaws.{count-parts}
 use Rattle.run.specs.RunAnswers.{runRefusalIn}
 use Rattle.run.specs.RunPlans.{stepsRefusal, StepsPlanned, RunPlanned}
 use Rattle.run.specs.declared.RunRefusal.{RunRefusal}
@@ -57,8 +58,8 @@ module _ (rows : List Row) (c : Counts) (e : c ≡ countsOf rows) (T : ℕ) (r :
   pub lists-by : (choices inputs : List ℕ) → r ≡ eqb (length choices) (c .unknown) && eqb (length inputs) (T * c .inputs) → r ≡ valueListsRight rows T choices inputs
   lists-by choices inputs h = h ∙ rw e refl
 
-  pub memory-by : (result work : ℕ) → r ≡ leb (T * c .outputs) result && leb runWorkBytes work → r ≡ runMemoryRight rows T result work
-  memory-by result work h = h ∙ rw e refl
+  pub memory-by : (result work : ℕ) → (least : ℕ) → least ≡ rowWorkBytes (c .nodes + c .outputs) → r ≡ leb (T * c .outputs) result && leb least work → r ≡ runMemoryRight rows T result work
+  memory-by result work least l h = h ∙ rw (l, e, count-parts isOutput constant rows) refl
 
 -- ---- plans
 

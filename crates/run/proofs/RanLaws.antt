@@ -7,6 +7,7 @@ use native.Mathlib.Omega.{arith}
 use lib.ListN.{length, replicate, length-replicate}
 use borrow.Author.Tests.{ne-eqb}
 use Rattle.netlist.specs.FileFormat.{netlistOf}
+use Rattle.netlist.proofs.WorkLaws.{work-holds}
 use Rattle.questions.specs.Questions.{namesEarlier, noRefusal, runRefusal}
 use Rattle.questions.proofs.QuestionLaws.{number-none}
 use Rattle.questions.proofs.PlainWords.{runMemoryRight-iff}
@@ -62,6 +63,7 @@ module _ (file : List ℕ) (T : ℕ) (choices inputs result work : List ℕ) (pl
     room-by work′ q =
         let room = runMemoryRight-iff (netlistOf file) T (length result) (length work) .0 (right .memory) .1 in
         let few = has-rows namesEarlier file (right .file-right) .few in
+        let twice = work-holds (length (netlistOf file)) few in
         let count = planned .go rows nodes ins e .0 in
         let l : length work′ ≡ length work = rw q (length-replicate (length work) 0) in
         record { fits = omega arith; binary = rw q (binary-zeros (length work)) }

@@ -17,7 +17,6 @@ use accept::FileRefusal;
 use blockfile::both;
 use blockfile::count::Counts;
 use netlist::MOST_STEPS;
-use netlist::RUN_WORK_BYTES;
 use simulate::Sizes;
 
 // What a run is refused for; of a file, with its place.
@@ -98,7 +97,8 @@ fn memory_right(counts: Counts, steps: usize, result: usize, work: usize) -> boo
     ensures { λ r. ⌜ ((rows : List Row) → countsIn counts ≡ countsOf rows → r ≡ runMemoryRight rows steps result work) ⌝ }
 {
     let bytes = steps * counts.outputs;
-    both(bytes <= result, RUN_WORK_BYTES <= work)
+    let least = netlist::row_work(counts.nodes + counts.outputs);
+    both(bytes <= result, least <= work)
 }
 
 // 17 to 20, of an accepted file of this many rows and these counts.

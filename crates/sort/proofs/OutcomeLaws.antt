@@ -10,7 +10,7 @@ use lib.Seq.{take-at}
 use lib.Dec.{eqb, leb}
 use borrow.Author.Tests.{ne-eqb}
 use Rattle.memory.specs.Fields.{IsBytes}
-use Rattle.netlist.specs.Limits.{sortWorkBytes}
+use Rattle.netlist.specs.Limits.{rowWorkBytes}
 use Rattle.netlist.specs.Rows.{Row}
 use Rattle.netlist.specs.FileFormat.{netlistOf, blocksFor, fileOf, fileIn, fileLeft}
 use Rattle.netlist.specs.WellFormed.{UnorderedRows}
@@ -62,7 +62,10 @@ module _ (file : List ℕ) (result work : ℕ) (a : Acceptance) (C : CheckedUnor
         go = λ n p. absurd (let z : _≡_ {A = ℕ} 0 1 = cc p in omega arith);
       }
 
-  module _ (n : ℕ) (c : Counts) (e : a ≡ accept.Accepted n c) (right : Bool) (t : right ≡ leb (length file) result && leb sortWorkBytes work) where
+  module _ (n : ℕ) (c : Counts) (e : a ≡ accept.Accepted n c) (right : Bool) (least : ℕ) (asked : least ≡ rowWorkBytes n) (t : right ≡ leb (length file) result && leb least work) where
+    test : right ≡ sortMemoryRight file result work
+    test = t ∙ rw (asked, C .count n c e)
+
     none : unorderedRefusal file ≡ noRefusal
     none = sym (C .refusal) ∙ ap acceptRefusal e
 
@@ -71,13 +74,13 @@ module _ (file : List ℕ) (result work : ℕ) (a : Acceptance) (C : CheckedUnor
 
     pub plan-go : right ≡ true → SortPlanned file result work (Go n)
     plan-go h = record {
-      refusal = sym (past ∙ list-yes 23 (sortMemoryRight file result work) [] (sym t ∙ h));
-      go = λ m p. (subst (Sortable file) (let z : n ≡ m = cc p in z) (sortable-of file n (unordered-ready file a C n c e) none (C .count n c e)), sortMemoryRight-iff file result work .0 (sym t ∙ h));
+      refusal = sym (past ∙ list-yes 23 (sortMemoryRight file result work) [] (sym test ∙ h));
+      go = λ m p. subst (λ (k : ℕ). Sortable file k × ((length file ≤ result) × (rowWorkBytes k ≤ work))) (let z : n ≡ m = cc p in z) (sortable-of file n (unordered-ready file a C n c e) none (C .count n c e), rw (C .count n c e) (sortMemoryRight-iff file result work .0 (sym test ∙ h)));
     }
 
     pub plan-memory : right ≡ false → SortPlanned file result work (Stop Memory)
     plan-memory h = record {
-      refusal = sym (past ∙ list-no 22 (sortMemoryRight file result work) [] (sym t ∙ h));
+      refusal = sym (past ∙ list-no 22 (sortMemoryRight file result work) [] (sym test ∙ h));
       go = λ m p. absurd (let z : _≡_ {A = ℕ} 0 1 = cc p in omega arith);
     }
 
@@ -89,7 +92,7 @@ module _ (file : List ℕ) (result work : ℕ) (plan : SortPlan) (P : SortPlanne
   pub plan-room : length file ≤ result
   plan-room = P .go n e .1 .0
 
-  pub plan-work : sortWorkBytes ≤ work
+  pub plan-work : rowWorkBytes n ≤ work
   plan-work = P .go n e .1 .1
 
 -- ---- 22, and the rows

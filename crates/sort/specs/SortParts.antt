@@ -4,7 +4,7 @@ use Prim.Native.Nat.{ℕ, _*_, _≤_}
 use mathlib.Core.Path.{_≡_}
 use mathlib.Core.List.{List, [], _∷_}
 use lib.ListN.{length}
-use Rattle.netlist.specs.Limits.{sortWorkBytes}
+use Rattle.netlist.specs.Limits.{rowWorkBytes}
 use Rattle.netlist.specs.FileFormat.{blocksFor}
 use Rattle.questions.specs.Questions.{Refusal, noRefusal, firstRefusal, question, unorderedRefusal}
 use Rattle.ordering.specs.SortQuestions.{sortMemoryRight}
@@ -29,4 +29,4 @@ planRefusal (Stop r) = sortRefusalIn r
 
 pub record SortPlanned (file : List ℕ) (result work : ℕ) (plan : SortPlan) : Type 0 where
   pub refusal : planRefusal plan ≡ planAsked file result work
-  pub go : (n : ℕ) → plan ≡ Go n → Sortable file n × ((length file ≤ result) × (sortWorkBytes ≤ work))
+  pub go : (n : ℕ) → plan ≡ Go n → Sortable file n × ((length file ≤ result) × (rowWorkBytes n ≤ work))

@@ -2,7 +2,7 @@
 ghost use mathlib.Core.Path.{_≡_};
 ghost use Prim.Native.Nat.{_≤_};
 ghost use lib.ListN.{length};
-ghost use Rattle.netlist.specs.Limits.{sortWorkBytes};
+ghost use Rattle.netlist.specs.Limits.{rowWorkBytes};
 ghost use Rattle.netlist.specs.FileFormat.{netlistOf};
 ghost use Rattle.row_sorter.specs.Placing.{RowsSorted};
 ghost use Rattle.sort.specs.SortAnswers.{sortRefusalIn, sortingRefusal, rowsIn};
@@ -12,7 +12,6 @@ use accept::Acceptance;
 use accept::FileRefusal;
 use blockfile::both;
 use gate_rows::Layout;
-use netlist::SORT_WORK_BYTES;
 
 // What a file is not sorted for; of a file, with its place.
 pub enum SortRefusal {
@@ -50,7 +49,7 @@ pub enum Sorting {
 
 // 22, and the sorted file if it is passed.
 fn sort_rows(file: &[u8], result: &mut [u8], work: &mut [u8], rows: usize) -> Sorting
-    requires { ⌜ Sortable (now file) rows × ((length (now file) ≤ length (now result)) × (sortWorkBytes ≤ length (now work))) ⌝ }
+    requires { ⌜ Sortable (now file) rows × ((length (now file) ≤ length (now result)) × (rowWorkBytes rows ≤ length (now work))) ⌝ }
     ensures { λ r. ⌜ RowsSorted (netlistOf (now (file .entry))) (now (result .entry)) (now (result .exit)) (sortingRefusal r) (rowsIn r) ⌝ }
     ensures { λ _. ⌜ length (now (work .exit)) ≡ length (now (work .entry)) ⌝ }
 {
@@ -76,7 +75,8 @@ fn plan_sort(file: &[u8], result: usize, work: usize) -> SortPlan
         Acceptance::Refused(refusal) => SortPlan::Stop(SortRefusal::File(refusal)),
         Acceptance::Accepted { rows, counts: _ } => {
             let size = file.len();
-            if both(size <= result, SORT_WORK_BYTES <= work) {
+            let least = netlist::row_work(rows);
+            if both(size <= result, least <= work) {
                 SortPlan::Go { rows: rows }
             } else {
                 SortPlan::Stop(SortRefusal::Memory)

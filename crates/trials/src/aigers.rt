@@ -25,9 +25,9 @@ pub struct Plan {
 }
 
 // What can be wrong; all others are right.
-const TWICE: usize = 1;
+pub const TWICE: usize = 1;
 
-const UNDEFINED: usize = 2;
+pub const UNDEFINED: usize = 2;
 
 const DEFINITION: usize = 3;
 
@@ -38,6 +38,9 @@ const RESET: usize = 5;
 const HEADER: usize = 6;
 
 const NO_OUTPUT: usize = 7;
+
+// Of long texts alone: a gate uses itself.
+pub const LOOP: usize = 8;
 
 // Stands for a literal that no line defines.
 const STRANGER: u32 = 4294967295;
@@ -248,6 +251,15 @@ fn spoil_uses(seed: &mut u64, plan: Plan, uses: &mut [u32]) {
     if plan.fault == UNDEFINED {
         put_number(uses, at, STRANGER);
     }
+}
+
+fn put_loop(seed: &mut u64, plan: Plan, uses: &mut [u32]) {
+    if plan.fault != LOOP {
+        return;
+    }
+    let gate = roll_from(seed, sources_of(plan), plan.gates);
+    let side = roll(seed, 2);
+    put_number(uses, plus(twice(gate), side), short(twice(gate)));
 }
 
 // A literal that no line defines, or rarely does.
@@ -464,6 +476,7 @@ pub fn put_text(
     put_all_uses(seed, plan, order, uses);
     spoil_names(seed, plan, names);
     spoil_uses(seed, plan, uses);
+    put_loop(seed, plan, uses);
     put_lines(seed, plan, names, uses, text)
 }
 
@@ -494,11 +507,11 @@ pub fn any_plan(seed: &mut u64, most: usize) -> Plan {
     }
 }
 
-// So many rows, most of them inputs.
+// So many rows, most of them inputs, with a gate at least.
 pub fn long_plan(seed: &mut u64, rows: usize, fault: usize) -> Plan {
     let outputs = roll_from(seed, 1, 8);
     let latches = roll(seed, 1000);
-    let gates = roll(seed, 1500);
+    let gates = roll_from(seed, 1, 1500);
     let others = plus(plus(1, outputs), plus(latches, gates));
     Plan {
         inputs: minus(rows, others),

@@ -75,7 +75,7 @@ fn change_reset(file: &mut [u8], seed: &mut u64, at: usize) {
 // A field becomes another number, up to twice the rows and some more.
 fn change_field(file: &mut [u8], seed: &mut u64, at: usize, rows: usize) {
     let row = row_at(file, at);
-    let value = roll_u16(seed, 2 * (rows % 8192) + 4);
+    let value = roll_u16(seed, 2 * (rows % 32768) + 4);
     let new = match roll(seed, 3) {
         0 => cells(row.kind, row.reset, value, row.b, row.c),
         1 => cells(row.kind, row.reset, row.a, value, row.c),
@@ -110,7 +110,7 @@ fn change_phase(file: &mut [u8], seed: &mut u64, at: usize) {
 
 // One of the bytes of a block's head.
 fn change_head(file: &mut [u8], seed: &mut u64, size: usize) {
-    let block = roll(seed, size / 512) % 128;
+    let block = roll(seed, size / 512) % 512;
     let at = plus(512 * block, roll(seed, 4));
     let value = roll_u8(seed, 70);
     text::bytes::put(file, at, value);

@@ -48,7 +48,7 @@ fn of_check(answer: Acceptance) -> Verdict {
     }
 }
 
-fn same_verdict(x: Verdict, y: Verdict) -> bool {
+pub fn same_verdict(x: Verdict, y: Verdict) -> bool {
     both(x.number == y.number, x.place == y.place)
 }
 
@@ -83,7 +83,7 @@ fn counts_right(file: &[u8], counts: Counts) -> bool {
     both(rows, registers)
 }
 
-fn count_right(file: &[u8], right: Verdict) -> bool {
+pub fn count_right(file: &[u8], right: Verdict) -> bool {
     match phasefold::count(file) {
         CountAnswer::Counted(counts) => both(right.number == 0, counts_right(file, counts)),
         CountAnswer::Refused(refusal) => same_verdict(of_file(refusal), right),
@@ -93,7 +93,7 @@ fn count_right(file: &[u8], right: Verdict) -> bool {
 // ---- Show
 
 // What Show says of a block, where Check says `right`.
-fn of_show(right: Verdict, blocks: usize, block: u32) -> Verdict {
+pub fn of_show(right: Verdict, blocks: usize, block: u32) -> Verdict {
     if right.number != 0 {
         return right;
     }
@@ -106,7 +106,7 @@ fn of_show(right: Verdict, blocks: usize, block: u32) -> Verdict {
 
 // The rows of the block as they stand in the file, and nothing after a refusal.
 fn part_of<'a>(file: &'a [u8], block: u32, number: u32) -> &'a [u8] {
-    let index = (block % 128) as usize;
+    let index = (block % 512) as usize;
     let size = if number == 0 { 504 } else { 0 };
     first(rest(file, 512 * index + 4), size)
 }
@@ -121,7 +121,7 @@ fn any_block(seed: u64, blocks: usize) -> u32 {
 }
 
 // Number and place hold something else before.
-fn show_right(file: &[u8], block: u32, expected: Verdict) -> bool {
+pub fn show_right(file: &[u8], block: u32, expected: Verdict) -> bool {
     let mut number: u32 = 77;
     let mut place: u32 = 77;
     let shown = phasefold::show(file, block, &mut number, &mut place);

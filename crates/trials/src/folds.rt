@@ -1,6 +1,7 @@
 // Fold of a file by the product and by the reference: refusals, answers, every byte of the result, clock entries.
 use crate::files::of_file;
 use crate::files::said;
+use crate::rooms;
 use crate::tally::add;
 use crate::tally::hold;
 use fold_core::FoldRefusal;
@@ -14,17 +15,15 @@ use text::bytes::get;
 use text::bytes::same;
 use text::numbers::number_at;
 
-// What is lent, and what the results hold before.
-pub const RESULT_ROOM: usize = 65600;
+// What is lent.
+const RESULT_LENT: usize = 65600;
 
-const WORK_ROOM: usize = 49152;
-
-pub const FILL: u8 = 170;
+const WORK_LENT: usize = 49152;
 
 fn lent_of(clocks: usize) -> Lent {
     Lent {
-        result: RESULT_ROOM,
-        work: WORK_ROOM,
+        result: RESULT_LENT,
+        work: WORK_LENT,
         clocks: clocks,
     }
 }
@@ -143,7 +142,7 @@ fn fold_again(
     list: &mut [u32],
     tally: &mut [u64],
 ) -> Folded {
-    let mut room = [FILL; RESULT_ROOM];
+    let mut room = rooms::short_filled();
     let expected: &mut [u8] = &mut room;
     let right = reference::fold(file, wish, lent_of(clocks), expected, list);
     let alike = same(result, expected);
@@ -159,7 +158,7 @@ pub fn try_fold(
     result: &mut [u8],
     tally: &mut [u64],
 ) -> Folded {
-    let mut works = [0u8; WORK_ROOM];
+    let mut works = rooms::fold_work();
     let mut lists = [0u32; 1024];
     let work: &mut [u8] = &mut works;
     let list: &mut [u32] = &mut lists;
@@ -172,6 +171,6 @@ pub fn try_fold(
 
 // The same where the result is of no further use.
 pub fn try_alone(file: &[u8], wish: u32, clocks: usize, tally: &mut [u64]) -> Folded {
-    let mut results = [FILL; RESULT_ROOM];
+    let mut results = rooms::short_filled();
     try_fold(file, wish, clocks, &mut results, tally)
 }

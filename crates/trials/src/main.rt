@@ -1,13 +1,15 @@
 // Random netlists and damaged files folded and sorted, and random AIGER texts imported, by the product and by the reference, a
-// folder, a sorter and an importer written separately from the paper's text; files and what is made of them run side by side; and the entries of the trainer's table that have no star.
+// folder, a sorter and an importer written separately from the paper's text; files and what is made of them run side by side; files at the limits of a file; and the entries of the trainer's table that have no star.
 mod aigers;
 mod damage;
 mod dice;
 mod files;
 mod folds;
 mod imports;
+mod longs;
 mod netlists;
 mod pieces;
+mod rooms;
 mod runs;
 mod sorts;
 mod tally;
@@ -30,9 +32,6 @@ const SEED: u64 = 88172645463325252;
 // The wishes 0 to 8.
 const WISHES: u32 = 9;
 
-// More than a file may have.
-const FILE_ROOM: usize = 66560;
-
 fn length_of(rows: u32) -> usize {
     let blocks = (rows % 65536 + 62) / 63;
     512 * blocks as usize
@@ -40,7 +39,7 @@ fn length_of(rows: u32) -> usize {
 
 // A fold that is done is run beside its file.
 fn try_wish(file: &[u8], wish: u32, seed: &mut u64, tally: &mut [u64]) {
-    let mut results = [folds::FILL; folds::RESULT_ROOM];
+    let mut results = rooms::short_filled();
     let result: &mut [u8] = &mut results;
     let answer = folds::try_fold(file, wish, 256, result, tally);
     if answer.number != 0 {
@@ -80,7 +79,7 @@ fn put_fresh(kind: Size, file: &mut [u8], seed: &mut u64) -> usize {
 
 // A netlist, the same with its nodes in any order, and the same damaged.
 fn try_netlist(kind: Size, seed: &mut u64, tally: &mut [u64]) {
-    let mut room = [0u8; FILE_ROOM];
+    let mut room = rooms::long_zeros();
     let file: &mut [u8] = &mut room;
     let size = put_fresh(kind, file, seed);
     try_file(first(file, size), seed, tally);
@@ -148,7 +147,7 @@ fn print_answer(answer: Folded) {
 
 // A counter of so many bits in a file of zeros, folded.
 fn fold_counter(bits: usize, tally: &mut [u64]) -> Folded {
-    let mut room = [0u8; FILE_ROOM];
+    let mut room = rooms::long_zeros();
     let file: &mut [u8] = &mut room;
     let size = netlists::put_counter(file, bits);
     folds::try_alone(first(file, size), 0, 256, tally)
@@ -163,11 +162,12 @@ fn try_counter(bits: usize, tally: &mut [u64]) {
 }
 
 fn main() {
-    let mut counts = [0u64; tally::SLOTS];
+    let mut counts = tally::fresh();
     let tally: &mut [u64] = &mut counts;
     try_counter(8, tally);
     try_counter(9, tally);
     try_rounds(tally);
     imports::try_all(tally);
+    longs::try_all(tally);
     tally::print_all(tally);
 }

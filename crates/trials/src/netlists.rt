@@ -166,7 +166,7 @@ fn at_limits(seed: &mut u64) -> Style {
     }
 }
 
-// Past the limit of Fold, up to the most rows of a file.
+// Past the limit of Fold, up to the most rows that Run and Sort take with little work.
 fn past_limits(seed: &mut u64) -> Style {
     let nodes = roll_from(seed, 1009, 6000);
     let rows = if chance(seed, 2) { 8064 } else { 0 };

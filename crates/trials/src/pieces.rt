@@ -24,10 +24,10 @@ pub fn plus(x: usize, y: usize) -> usize {
     std::num::wrapping_add_usize(x, y)
 }
 
-// Labels differ from row to row, and are no row numbers.
+// Labels differ from row to row, since 7 is odd, and none is its row's number.
 pub fn label_of(row: usize) -> u16 {
-    let number = row % 8064;
-    (7 * number + 3) as u16
+    let number = row % 65536;
+    ((7 * number + 3) % 65536) as u16
 }
 
 fn put_register(file: &mut [u8], at: usize, reset: u8, next: u16) {

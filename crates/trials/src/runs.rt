@@ -2,6 +2,8 @@
 use crate::dice::put_values;
 use crate::dice::roll;
 use crate::pieces::plus;
+use crate::rooms;
+use crate::sorts::least_work;
 use crate::tally::add;
 use crate::tally::hold;
 use reference::rows::Row;
@@ -12,16 +14,12 @@ use run::RunAnswer;
 use text::both;
 use text::bytes::first;
 use text::bytes::get;
+use text::bytes::least;
 use text::bytes::put;
 use text::bytes::rest;
 use text::bytes::same;
 
 const MOST_STEPS: usize = 48;
-
-const ROOM: usize = 65536;
-
-// The choices of 256 registers, and inputs.
-const VALUES_ROOM: usize = 65792;
 
 // A run of so many steps takes so many groups; it starts by so many choices, a step has so many inputs and outputs, a group so many others.
 struct Sizes {
@@ -35,7 +33,7 @@ struct Sizes {
     group_outputs: usize,
 }
 
-fn times(x: usize, y: usize) -> usize {
+pub fn times(x: usize, y: usize) -> usize {
     x % 65536 * (y % 65536)
 }
 
@@ -218,12 +216,13 @@ fn same_shown(fold: &[u8], sizes: Sizes, map: &[u16], shown: &[u8], folded: &[u8
 
 // ---- runs
 
-// Run by the product; whether it was done.
+// Run by the product with as much work as it asks for; whether it was done.
 fn run(file: &[u8], steps: usize, choices: &[u8], inputs: &[u8], shown: &mut [u8]) -> bool {
-    let mut works = [0u8; 16384];
+    let mut works = rooms::short_zeros();
     let work: &mut [u8] = &mut works;
+    let end = least(least_work(rows_of(file)), work.len());
     let count = (steps % 65536) as u32;
-    let answer = phasefold::run(file, count, choices, inputs, shown, work);
+    let answer = phasefold::run(file, count, choices, inputs, shown, &mut work[0..end]);
     match answer {
         RunAnswer::Done => true,
         RunAnswer::Refused(_) => false,
@@ -239,7 +238,7 @@ fn try_original(
     inputs: &[u8],
     shown: &mut [u8],
 ) -> bool {
-    let mut room = [0u8; ROOM];
+    let mut room = rooms::short_zeros();
     let again: &mut [u8] = &mut room;
     let done = run(file, steps, choices, inputs, shown);
     reference::steps::run(original, steps, choices, inputs, again);
@@ -255,7 +254,7 @@ fn give_inputs(
     seed: &mut u64,
     given: &mut [u8],
 ) -> usize {
-    let mut maps = [0u16; ROOM];
+    let mut maps = rooms::words();
     let map: &mut [u16] = &mut maps;
     let size = times(sizes.groups, sizes.group_inputs);
     put_values(given, seed, size);
@@ -266,7 +265,7 @@ fn give_inputs(
 
 // The choices of the fold's registers; the answer is how many.
 fn give_choices(file: &[u8], fold: &[u8], choices: &[u8], picked: &mut [u8]) -> usize {
-    let mut maps = [0u16; ROOM];
+    let mut maps = rooms::words();
     let map: &mut [u16] = &mut maps;
     map_labels(file, 2, map);
     fill_choices(fold, map, choices, picked)
@@ -282,7 +281,7 @@ fn run_fold(
     folded: &mut [u8],
 ) -> bool {
     let mut chosen = [0u8; 256];
-    let mut lists = [0u8; ROOM];
+    let mut lists = rooms::short_zeros();
     let picked: &mut [u8] = &mut chosen;
     let given: &mut [u8] = &mut lists;
     let inputs = rest(values, sizes.unknown);
@@ -299,7 +298,7 @@ fn run_fold(
 
 // Whether file and fold show the same.
 fn same_runs(file: &[u8], fold: &[u8], sizes: Sizes, shown: &[u8], folded: &[u8]) -> bool {
-    let mut maps = [0u16; ROOM];
+    let mut maps = rooms::words();
     let map: &mut [u16] = &mut maps;
     map_labels(file, 6, map);
     same_shown(fold, sizes, map, shown, folded)
@@ -313,7 +312,7 @@ fn try_folded(
     shown: &[u8],
     seed: &mut u64,
 ) -> bool {
-    let mut room = [0u8; ROOM];
+    let mut room = rooms::short_zeros();
     let folded: &mut [u8] = &mut room;
     let done = run_fold(file, fold, sizes, values, seed, folded);
     let alike = same_runs(file, fold, sizes, shown, folded);
@@ -354,7 +353,7 @@ struct Right {
 
 // Both on these values, the choices first.
 fn try_both(file: &[u8], fold: &[u8], sizes: Sizes, values: &[u8], seed: &mut u64) -> Right {
-    let mut room = [0u8; ROOM];
+    let mut room = rooms::short_zeros();
     let shown: &mut [u8] = &mut room;
     let choices = first(values, sizes.unknown);
     let inputs = rest(values, sizes.unknown);
@@ -368,7 +367,7 @@ fn try_both(file: &[u8], fold: &[u8], sizes: Sizes, values: &[u8], seed: &mut u6
 
 // Choices and inputs by chance.
 fn try_sized(file: &[u8], fold: &[u8], sizes: Sizes, seed: &mut u64) -> Right {
-    let mut lists = [0u8; VALUES_ROOM];
+    let mut lists = rooms::short_zeros();
     let values: &mut [u8] = &mut lists;
     let size = plus(sizes.unknown, times(sizes.steps, sizes.inputs));
     put_values(values, seed, size);
@@ -394,7 +393,7 @@ pub fn try_run(file: &[u8], fold: &[u8], phases: usize, seed: &mut u64, tally: &
 
 // Both have their inputs and registers in the same order, so both are given the same values.
 fn same_as_original(original: &[u8], sorted: &[u8], sizes: Sizes, values: &[u8]) -> bool {
-    let mut room = [0u8; ROOM];
+    let mut room = rooms::short_zeros();
     let shown: &mut [u8] = &mut room;
     let choices = first(values, sizes.unknown);
     let inputs = rest(values, sizes.unknown);
@@ -403,7 +402,7 @@ fn same_as_original(original: &[u8], sorted: &[u8], sizes: Sizes, values: &[u8])
 
 // One run of both, over a few steps.
 pub fn try_sorted(original: &[u8], sorted: &[u8], seed: &mut u64, tally: &mut [u64]) {
-    let mut lists = [0u8; VALUES_ROOM];
+    let mut lists = rooms::long_zeros();
     let values: &mut [u8] = &mut lists;
     let steps = roll(seed, 8);
     let sizes = sizes_of(original, sorted, steps, 1);
@@ -418,16 +417,30 @@ pub fn try_sorted(original: &[u8], sorted: &[u8], seed: &mut u64, tally: &mut [u
 // ---- imported files
 
 // The text's run, by its own equations.
-fn run_text(text: &[u8], steps: usize, choices: &[u8], inputs: &[u8], shown: &mut [u8]) {
-    let mut tables = [0u32; ROOM];
-    let mut lists = [0u32; 8192];
+fn run_short(text: &[u8], steps: usize, choices: &[u8], inputs: &[u8], shown: &mut [u8]) {
+    let mut tables = rooms::short_table();
+    let mut lists = rooms::short_list();
     reference::equations::run(text, steps, choices, inputs, shown, &mut tables, &mut lists);
+}
+
+fn run_long(text: &[u8], steps: usize, choices: &[u8], inputs: &[u8], shown: &mut [u8]) {
+    let mut tables = rooms::long_table();
+    let mut lists = rooms::long_list();
+    reference::equations::run(text, steps, choices, inputs, shown, &mut tables, &mut lists);
+}
+
+fn run_text(text: &[u8], steps: usize, choices: &[u8], inputs: &[u8], shown: &mut [u8]) {
+    if rooms::is_short(text) {
+        run_short(text, steps, choices, inputs, shown);
+    } else {
+        run_long(text, steps, choices, inputs, shown);
+    }
 }
 
 // The imported file has the text's inputs and latches in their order, so both are given the same values.
 fn same_as_text(text: &[u8], file: &[u8], sizes: Sizes, values: &[u8]) -> bool {
-    let mut room = [0u8; ROOM];
-    let mut again_room = [0u8; ROOM];
+    let mut room = rooms::short_zeros();
+    let mut again_room = rooms::short_zeros();
     let shown: &mut [u8] = &mut room;
     let again: &mut [u8] = &mut again_room;
     let choices = first(values, sizes.unknown);
@@ -439,7 +452,7 @@ fn same_as_text(text: &[u8], file: &[u8], sizes: Sizes, values: &[u8]) -> bool {
 
 // One run of both, over a few steps.
 pub fn try_text(text: &[u8], file: &[u8], seed: &mut u64, tally: &mut [u64]) {
-    let mut lists = [0u8; VALUES_ROOM];
+    let mut lists = rooms::long_zeros();
     let values: &mut [u8] = &mut lists;
     let steps = roll(seed, 8);
     let sizes = sizes_of(file, file, steps, 1);

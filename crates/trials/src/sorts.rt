@@ -5,10 +5,9 @@ use crate::dice::roll;
 use crate::dice::roll_from;
 use crate::files::of_file;
 use crate::files::said;
-use crate::folds::FILL;
-use crate::folds::RESULT_ROOM;
 use crate::pieces::cells;
 use crate::pieces::plus;
+use crate::rooms;
 use crate::runs::get_word;
 use crate::runs::put_word;
 use crate::tally::add;
@@ -25,11 +24,13 @@ use text::bytes::first;
 use text::bytes::least;
 use text::bytes::same;
 
-const FILE_ROOM: usize = 66560;
+// So much of the result behind the file is compared, whether it is lent or not.
+const BEHIND: usize = 64;
 
-const LEAST_WORK: usize = 16384;
-
-const WORK_ROOM: usize = 16400;
+// The work that is asked for by the rows.
+pub fn least_work(rows: usize) -> usize {
+    if rows <= 8064 { 16384 } else { 65536 }
+}
 
 // ---- nodes in any order
 
@@ -75,18 +76,27 @@ fn redraw_some(file: &mut [u8], seed: &mut u64, nodes: usize, count: usize) {
     }
 }
 
-// All nodes of the file change places, or a few, and some operands are drawn again, so that there may be loops.
-fn put_mixed(file: &[u8], seed: &mut u64, mixed: &mut [u8]) {
-    let mut room = [0u16; 8192];
+fn nodes_in(file: &[u8]) -> usize {
+    let rows = rows_of(file);
+    std::num::wrapping_sub_usize(rows, count_kind(file, rows, 6))
+}
+
+// All nodes of the file change places, or a few.
+pub fn put_shuffled(file: &[u8], seed: &mut u64, mixed: &mut [u8]) {
+    let mut room = rooms::words();
     let numbers: &mut [u16] = &mut room;
     let rows = rows_of(file);
-    let nodes = std::num::wrapping_sub_usize(rows, count_kind(file, rows, 6));
     let rarely = if chance(seed, 4) { 16 } else { 1 };
-    mix(seed, nodes, rows, rarely, numbers);
+    mix(seed, nodes_in(file), rows, rarely, numbers);
     reference::sorting::put_moved(file, rows, numbers, mixed);
     reference::writer::close(mixed, rows);
+}
+
+// The same, and some operands are drawn again, so that there may be loops.
+pub fn put_mixed(file: &[u8], seed: &mut u64, mixed: &mut [u8]) {
+    put_shuffled(file, seed, mixed);
     let count = roll(seed, 8);
-    redraw_some(mixed, seed, nodes, count);
+    redraw_some(mixed, seed, nodes_in(file), count);
 }
 
 // ---- both
@@ -145,34 +155,55 @@ fn sort_again(
     work: &[u8],
     tally: &mut [u64],
 ) -> Sorted {
-    let mut results = [FILL; RESULT_ROOM];
-    let mut works = [FILL; WORK_ROOM];
+    let mut results = rooms::long_filled();
+    let mut works = rooms::short_filled();
     let expected: &mut [u8] = &mut results;
     let cleared: &mut [u8] = &mut works;
     let written = least(result_end, expected.len());
     let used = least(work_end, cleared.len());
     let right = reference::sorting::sort(file, &mut expected[0..written], &mut cleared[0..used]);
-    hold(tally, same(result, expected), crate::tally::SORT_RESULTS);
+    let left = first(expected, result.len());
+    hold(tally, same(result, left), crate::tally::SORT_RESULTS);
     hold(tally, same(work, cleared), crate::tally::SORT_WORKS);
     right
 }
 
-fn sort_both(file: &[u8], seed: &mut u64, result: &mut [u8], tally: &mut [u64]) -> Sorted {
-    let mut works = [FILL; WORK_ROOM];
+// Sort by both with this much lent.
+fn sort_lent(
+    file: &[u8],
+    result_lent: usize,
+    work_lent: usize,
+    result: &mut [u8],
+    tally: &mut [u64],
+) -> Sorted {
+    let mut works = rooms::short_filled();
     let work: &mut [u8] = &mut works;
-    let result_end = least(lent_of(seed, file.len()), result.len());
-    let work_end = least(lent_of(seed, LEAST_WORK), work.len());
+    let result_end = least(result_lent, result.len());
+    let work_end = least(work_lent, work.len());
     let answer = phasefold::sort(file, &mut result[0..result_end], &mut work[0..work_end]);
     let right = sort_again(file, result_end, work_end, result, work, tally);
     compare_answers(of_sort(answer), right, tally);
     right
 }
 
+fn sort_both(file: &[u8], seed: &mut u64, result: &mut [u8], tally: &mut [u64]) -> Sorted {
+    let result_lent = lent_of(seed, file.len());
+    let work_lent = lent_of(seed, least_work(rows_of(file)));
+    sort_lent(file, result_lent, work_lent, result, tally)
+}
+
+// Sort with this much work.
+pub fn try_work(file: &[u8], work_lent: usize, tally: &mut [u64]) {
+    let mut results = rooms::long_filled();
+    let result: &mut [u8] = &mut results;
+    sort_lent(file, file.len(), work_lent, result, tally);
+}
+
 // ---- what is sorted
 
 pub fn is_stable(sorted: &[u8]) -> bool {
-    let mut results = [FILL; RESULT_ROOM];
-    let mut works = [FILL; WORK_ROOM];
+    let mut results = rooms::long_filled();
+    let mut works = rooms::short_filled();
     let result: &mut [u8] = &mut results;
     let work: &mut [u8] = &mut works;
     let end = least(sorted.len(), result.len());
@@ -187,10 +218,11 @@ fn try_sorted(file: &[u8], sorted: &[u8], seed: &mut u64, tally: &mut [u64]) {
     crate::runs::try_sorted(file, sorted, seed, tally);
 }
 
-fn try_sort(file: &[u8], seed: &mut u64, tally: &mut [u64]) {
-    let mut results = [FILL; RESULT_ROOM];
+pub fn try_sort(file: &[u8], seed: &mut u64, tally: &mut [u64]) {
+    let mut results = rooms::long_filled();
     let result: &mut [u8] = &mut results;
-    let answer = sort_both(file, seed, result, tally);
+    let end = least(plus(file.len(), BEHIND), result.len());
+    let answer = sort_both(file, seed, &mut result[0..end], tally);
     if answer.number == 0 {
         try_sorted(file, first(result, file.len()), seed, tally);
     }
@@ -198,7 +230,7 @@ fn try_sort(file: &[u8], seed: &mut u64, tally: &mut [u64]) {
 
 // The file with its nodes in any order, and then the same damaged; no seed is moved.
 pub fn try_mixed(file: &[u8], seed: u64, tally: &mut [u64]) {
-    let mut room = [0u8; FILE_ROOM];
+    let mut room = rooms::long_zeros();
     let mixed: &mut [u8] = &mut room;
     let mut own = seed;
     let size = file.len();

@@ -1,4 +1,6 @@
 // Counts of what was tried and what was found.
+ghost use mathlib.Core.Path.{_≡_};
+ghost use lib.ListN.{length};
 
 // Folds by number: 0 for those done, else the refusal's. The other counts stand after them.
 pub const FILES: usize = 24;
@@ -40,61 +42,115 @@ pub const IMPORTED_RUNS: usize = 87;
 
 pub const IMPORTED_STEPS: usize = 88;
 
+// Long files by what Check says, from here on as the folds above; the blocks of them that are shown, or not there.
+pub const LONGS: usize = 89;
+
+pub const LONG_SHOWN: usize = 100;
+
+pub const LONG_PAST_END: usize = 101;
+
+// Folds and sorts of them by number.
+pub const LONG_FOLDS: usize = 102;
+
+pub const LONG_SORTS: usize = 119;
+
+// Files with a changed head, and with two blocks exchanged, by what Check says.
+pub const HEADS: usize = 143;
+
+pub const EXCHANGES: usize = 154;
+
+// Runs and sorts with work of several lengths by number.
+pub const WORK_RUNS: usize = 165;
+
+pub const WORK_SORTS: usize = 186;
+
+// Imports of long texts by number.
+pub const LONG_IMPORTS: usize = 210;
+
 // Differences, each kind by itself, from here on.
-pub const CHECKS: usize = 89;
+pub const CHECKS: usize = 236;
 
-pub const ANSWERS: usize = 90;
+pub const ANSWERS: usize = 237;
 
-pub const RESULTS: usize = 91;
+pub const RESULTS: usize = 238;
 
-pub const ENTRIES: usize = 92;
+pub const ENTRIES: usize = 239;
 
-pub const FILE_RUNS: usize = 93;
+pub const FILE_RUNS: usize = 240;
 
-pub const FOLD_RUNS: usize = 94;
+pub const FOLD_RUNS: usize = 241;
 
-pub const COUNTS: usize = 95;
+pub const COUNTS: usize = 242;
 
-pub const SHOWS: usize = 96;
+pub const SHOWS: usize = 243;
 
-pub const SORT_ANSWERS: usize = 97;
+pub const SORT_ANSWERS: usize = 244;
 
-pub const SORT_RESULTS: usize = 98;
+pub const SORT_RESULTS: usize = 245;
 
-pub const SORT_WORKS: usize = 99;
+pub const SORT_WORKS: usize = 246;
 
-pub const UNACCEPTED: usize = 100;
+pub const UNACCEPTED: usize = 247;
 
-pub const UNSTABLE: usize = 101;
+pub const UNSTABLE: usize = 248;
 
-pub const SORT_RUNS: usize = 102;
+pub const SORT_RUNS: usize = 249;
 
-pub const IMPORT_ANSWERS: usize = 103;
+pub const IMPORT_ANSWERS: usize = 250;
 
-pub const IMPORT_RESULTS: usize = 104;
+pub const IMPORT_RESULTS: usize = 251;
 
-pub const IMPORT_WORKS: usize = 105;
+pub const IMPORT_WORKS: usize = 252;
 
-pub const IMPORT_UNACCEPTED: usize = 106;
+pub const IMPORT_UNACCEPTED: usize = 253;
 
-pub const IMPORT_UNSTABLE: usize = 107;
+pub const IMPORT_UNSTABLE: usize = 254;
 
-pub const IMPORT_RUNS: usize = 108;
+pub const IMPORT_RUNS: usize = 255;
 
-pub const IMPORT_FOLDS: usize = 109;
+pub const IMPORT_FOLDS: usize = 256;
+
+pub const RUN_ANSWERS: usize = 257;
+
+pub const RUN_RESULTS: usize = 258;
+
+pub const RUN_WORKS: usize = 259;
 
 // How many counts there are.
-pub const SLOTS: usize = 110;
+pub const SLOTS: usize = 260;
+
+// A tally of nothing.
+pub fn fresh() -> [u64; SLOTS]
+    ensures { λ r. ⌜ 260 ≡ length r ⌝ }
+{
+    [0; SLOTS]
+}
 
 pub fn count(tally: &[u64], at: usize) -> u64 {
     if at < tally.len() { tally[at] } else { 0 }
 }
 
-pub fn add(tally: &mut [u64], at: usize, more: usize) {
+fn add_count(tally: &mut [u64], at: usize, more: u64) {
     let before = count(tally, at);
     if at < tally.len() {
-        tally[at] = std::num::wrapping_add_u64(before, more as u64);
+        tally[at] = std::num::wrapping_add_u64(before, more);
     }
+}
+
+pub fn add(tally: &mut [u64], at: usize, more: usize) {
+    add_count(tally, at, more as u64);
+}
+
+// So many counts of another tally, from `from` on, are added to those from `to` on.
+pub fn take(own: &[u64], from: usize, size: usize, tally: &mut [u64], to: usize) {
+    'counts: for i in 0..size {
+        let more = count(own, std::num::wrapping_add_usize(from, i));
+        add_count(tally, std::num::wrapping_add_usize(to, i), more);
+    }
+}
+
+pub fn take_differences(own: &[u64], tally: &mut [u64]) {
+    take(own, CHECKS, SLOTS - CHECKS, tally, CHECKS);
 }
 
 pub fn print(text: &[u8], number: u64) {
@@ -115,13 +171,16 @@ pub fn hold(tally: &mut [u64], same: bool, kind: usize) {
     add_if(tally, kind, !same);
 }
 
-pub fn differences(tally: &[u64]) -> u64 {
+fn sum_of(tally: &[u64], start: usize, end: usize) -> u64 {
     let mut sum: u64 = 0;
-    let end: usize = SLOTS;
-    'kinds: for kind in CHECKS..end {
-        sum = std::num::wrapping_add_u64(sum, count(tally, kind));
+    'counts: for at in start..end {
+        sum = std::num::wrapping_add_u64(sum, count(tally, at));
     }
     sum
+}
+
+pub fn differences(tally: &[u64]) -> u64 {
+    sum_of(tally, CHECKS, SLOTS)
 }
 
 fn print_count(tally: &[u64], text: &[u8], at: usize) {
@@ -172,10 +231,73 @@ fn print_imports(tally: &[u64]) {
     print_count(tally, b"\nimports ", ALL_IMPORTS);
     print_count(tally, b"\n  done: ", IMPORTS);
     io::write_all(1, b"\n");
-    print_refusals(tally, IMPORTS, 22, 26);
+    print_refusals(tally, IMPORTS, 22, 25);
     print_count(tally, b"runs of text and imported file ", IMPORTED_RUNS);
     print_count(tally, b"\nsteps compared ", IMPORTED_STEPS);
     print_count(tally, b"\nimported files folded ", IMPORTS_FOLDED);
+}
+
+// The counts from `start` on and before `end` together.
+fn print_sum(tally: &[u64], text: &[u8], start: usize, end: usize) {
+    print(text, sum_of(tally, start, end));
+}
+
+fn print_long_imports(tally: &[u64]) {
+    print_sum(tally, b"\nimports of long texts ", LONG_IMPORTS, CHECKS);
+    print_count(tally, b"\n  done: ", LONG_IMPORTS);
+    io::write_all(1, b"\n");
+    print_refusals(tally, LONG_IMPORTS, 22, 26);
+}
+
+fn print_long_files(tally: &[u64]) {
+    print_sum(tally, b"long files ", LONGS, LONG_SHOWN);
+    print_count(tally, b"\n  counted: ", LONGS);
+    print_count(tally, b"\n  refused 1: ", LONGS + 1);
+    print_count(tally, b"\n  blocks shown: ", LONG_SHOWN);
+    print_count(tally, b"\n  refused 21: ", LONG_PAST_END);
+    print_sum(tally, b"\nfolds of long files ", LONG_FOLDS, LONG_SORTS);
+    print_count(tally, b"\n  refused 1: ", LONG_FOLDS + 1);
+    print_count(tally, b"\n  refused 11: ", LONG_FOLDS + 11);
+}
+
+fn print_long_sorts(tally: &[u64]) {
+    print_sum(tally, b"\nsorts of long files ", LONG_SORTS, HEADS);
+    print_count(tally, b"\n  done: ", LONG_SORTS);
+    print_count(tally, b"\n  refused 22: ", LONG_SORTS + 22);
+    print_sum(
+        tally,
+        b"\n  refused 1 to 10: ",
+        LONG_SORTS + 1,
+        LONG_SORTS + 11,
+    );
+    print_count(tally, b"\n  refused 23: ", LONG_SORTS + 23);
+}
+
+fn print_damaged(tally: &[u64]) {
+    print_sum(tally, b"\nheads changed ", HEADS, EXCHANGES);
+    print_count(tally, b"\n  accepted: ", HEADS);
+    print_count(tally, b"\n  refused 3: ", HEADS + 3);
+    print_sum(tally, b"\nblocks exchanged ", EXCHANGES, WORK_RUNS);
+    print_count(tally, b"\n  refused 3: ", EXCHANGES + 3);
+}
+
+fn print_works(tally: &[u64]) {
+    print_sum(
+        tally,
+        b"\nruns with work of four lengths ",
+        WORK_RUNS,
+        WORK_SORTS,
+    );
+    print_count(tally, b"\n  done: ", WORK_RUNS);
+    print_count(tally, b"\n  refused 20: ", WORK_RUNS + 20);
+    print_sum(
+        tally,
+        b"\nsorts with work of four lengths ",
+        WORK_SORTS,
+        LONG_IMPORTS,
+    );
+    print_count(tally, b"\n  done: ", WORK_SORTS);
+    print_count(tally, b"\n  refused 23: ", WORK_SORTS + 23);
 }
 
 fn print_file_differences(tally: &[u64]) {
@@ -198,6 +320,9 @@ fn print_run_differences(tally: &[u64]) {
         b"\n  in runs of the fold, beside the file: ",
         FOLD_RUNS,
     );
+    print_count(tally, b"\n  in Run's answer: ", RUN_ANSWERS);
+    print_count(tally, b"\n  in what Run shows: ", RUN_RESULTS);
+    print_count(tally, b"\n  in work after Run: ", RUN_WORKS);
 }
 
 fn print_sort_differences(tally: &[u64]) {
@@ -238,6 +363,11 @@ pub fn print_all(tally: &[u64]) {
     print_runs(tally);
     print_sorts(tally);
     print_imports(tally);
+    print_long_imports(tally);
+    print_long_files(tally);
+    print_long_sorts(tally);
+    print_damaged(tally);
+    print_works(tally);
     print_file_differences(tally);
     print_fold_differences(tally);
     print_run_differences(tally);

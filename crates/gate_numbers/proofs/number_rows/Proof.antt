@@ -9,7 +9,7 @@ place-gates-requires : tie.Need-place-gates-requires
 place-gates-requires c κs = (search needs, (search needs, (search needs, search needs)))
 
 number-kinds-requires : tie.Need-number-kinds-requires
-number-kinds-requires c κs = (search needs, (search nodes-fit, search needs))
+number-kinds-requires c κs = (search needs, (nodes-fit _ _ _ (c .before .before .before .before .before .before .before .before .before .before .before .before .before .before .before .before .before .before .before .before .before .pre .0 .0) _ _ (c .before .before .before .place-gates .ensures), search needs))
 
 returns : tie.Need-returns
 returns c = (search all-numbered, search needs)

@@ -2,12 +2,12 @@
 -- Assumes nothing.
 use borrow.Author.Needs.{needs}
 use Rattle.row_sorter.proofs.SortedLaws.{rows-looped, rows-sorted}
-use Rattle.import.proofs.OutcomeLaws.{file-room}
+use Rattle.import.proofs.OutcomeLaws.{file-room, slots-room}
 use Rattle.import.proofs.sort_pairs.Statement.{statement}
 use Rattle.import.proofs.sort_pairs.Tie as tie
 
 sort-rows-requires : tie.Need-sort-rows-requires
-sort-rows-requires c κs = (search needs, (search file-room, search needs))
+sort-rows-requires c κs = (search needs, (search file-room, search slots-room))
 
 returns : tie.Need-returns
 returns c = (search rows-looped, search needs)

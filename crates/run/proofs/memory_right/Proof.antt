@@ -14,4 +14,4 @@ returns c = search memory-by
 pub memory-right-spec : {M : Type 1} → statement M
 memory-right-spec =
     tie.close
-    (tie.spec mul-bytes (λ c κs. search needs) returns)
+    (tie.spec mul-bytes (λ c. search needs) (λ c κs. search needs) (λ c κs. search needs) returns)

@@ -15,4 +15,4 @@ returns-3 : tie.Need-returns-3
 returns-3 c = search plan-memory
 
 pub plan-sort-spec : {M : Type 1} → statement M
-plan-sort-spec = tie.close (tie.spec (λ c κs. search needs) (λ c. search needs) (λ c. search needs) (λ c κs. search needs) returns returns-2 returns-3)
+plan-sort-spec = tie.close (tie.spec (λ c κs. search needs) (λ c. search needs) (λ c. search needs) (λ c κs. search needs) (λ c κs. search needs) returns returns-2 returns-3)

@@ -17,4 +17,5 @@ pub try-long-spec : {M : Type 1} → statement M
 try-long-spec =
     tie.close
     (tie.spec Inv-texts μ-texts (λ c. search needs) (λ c κs. search needs) (λ c κs. search needs) (λ c κs. search needs)
-    (λ c. search needs) (λ c. search needs) (λ c. search needs) (λ c. search needs) (λ c. search needs))
+    (λ c κs. search needs) (λ c. search needs) (λ c. search needs) (λ c. search needs) (λ c. search needs)
+    (λ c. search needs))
