@@ -1,11 +1,11 @@
-# Sourced by the scripts pf and print, which set `top`, the repository's folder, and `call`, the script's name.
-# make_current sees to it that the programs pf and fold_print are there, made from the sources that are there.
+# Sourced by the scripts pf and print, which set `top`, the repository's folder, `call`, the script's name, and `program`, the program that it runs.
+# make_current sees to it that the program is there, made from the sources that are there.
 #
-# One build makes both. Once all is proved and both programs have written what they should, the mark is written:
-# a checksum of the sources and both programs, the toolchain's version, and a checksum of the sources. A program is
-# run only if the mark is right; so never one whose check failed, nor one of other sources, whatever the times of
-# the files say.
-mark=$top/target/built
+# A build makes one program, and proves only what that stands on. Once all of it is proved and the program has written
+# what it should, its mark is written: a checksum of the sources and the program, the toolchain's version, and a
+# checksum of the sources. A program is run only if its mark is right; so never one whose check failed, nor one of other
+# sources, whatever the times of the files say.
+mark=$top/target/built.$program
 log=$top/target/build.log
 lock=$top/target/building
 
@@ -27,8 +27,8 @@ sources() {
     checksum crates crates.txt
 }
 
-sources_and_programs() {
-    checksum crates crates.txt target/bin/pf target/bin/fold_print
+sources_and_program() {
+    checksum crates crates.txt "target/bin/$program"
 }
 
 # The version counts only for those who can build: they have the toolchain, and may write.
@@ -39,7 +39,7 @@ same_toolchain() {
 
 is_current() {
     { read -r marked && read -r toolchain; } 2>/dev/null <"$mark" || return 1
-    [ "$(sources_and_programs)" = "$marked" ] && same_toolchain "$toolchain"
+    [ "$(sources_and_program)" = "$marked" ] && same_toolchain "$toolchain"
 }
 
 # ---- the lock: a folder, and in it an empty folder for each process that holds it, named by its id
@@ -83,11 +83,12 @@ wait_for_builder() {
 # ---- the build
 
 # Runs rt in a process group of its own (by setsid; without that command only rt itself would be ended), and passes on what it says of crates.
+# rt starts as many crates at once as RT_JOBS says and waits for all of them: with more than there are processors, none of these is idle for long.
 run_rt() {
     own_group=$(command -v setsid)
     $own_group sh -c '
         cd -- "$1/" || exit 2
-        { rt check pf fold_print 2>&1; echo "ended $?"; } | {
+        { RT_JOBS=${RT_JOBS:-4} rt check "$3" 2>&1; echo "ended $?"; } | {
             trap "" PIPE
             while IFS= read -r line; do
                 last=$line
@@ -98,7 +99,7 @@ run_rt() {
                 esac
             done
             exit "${last#ended }"
-        } >"$2"' sh "$top" "$log" >/dev/null &
+        } >"$2"' sh "$top" "$log" "$program" >/dev/null &
     mkdir "$lock/$!"
     wait "$!"
 }
@@ -115,29 +116,29 @@ stop() {
     kill -s "$1" $$
 }
 
-has_programs() {
-    [ -x "$top/target/bin/pf" ] && [ -x "$top/target/bin/fold_print" ]
+has_program() {
+    [ -x "$top/target/bin/$program" ]
 }
 
 # rt leaves a program that it has proved as it is. If that is gone, or another although the sources are the same, it
-# has to be made anew: for that rt's own marks of the two programs go.
-forget_programs() {
-    has_programs && [ "$(sed -n 3p "$mark" 2>/dev/null)" != "$before" ] ||
-        rm -f "$top/target/stamp/pf" "$top/target/stamp/fold_print"
+# has to be made anew: for that rt's own mark of the program goes.
+forget_program() {
+    has_program && [ "$(sed -n 3p "$mark" 2>/dev/null)" != "$before" ] ||
+        rm -f "$top/target/stamp/$program"
 }
 
 build() {
     command -v rt >/dev/null || fail "the Rattle toolchain is needed to build it: no command rt"
     before=$(sources)
-    forget_programs
+    forget_program
     rm -f "$mark"
     say "building the program, which takes some minutes; each crate is named once it is proved"
     run_rt || {
         grep -v -e ': proved$' -e '^rt: .* proved (.*)$' -e '^ended ' "$log" >&2
         fail "the program could not be built"
     }
-    has_programs || fail "rt has made no program"
-    after=$(sources_and_programs)
+    has_program || fail "rt has made no program"
+    after=$(sources_and_program)
     [ "$(sources)" = "$before" ] || fail "the sources were changed while it was built: call again"
     { echo "$after" && rt version && echo "$before"; } >"$mark.new" && mv "$mark.new" "$mark" || fail "cannot write $mark"
 }
