@@ -1,5 +1,6 @@
 // Check: questions 1 to 10 of a whole file, in the paper's order.
 ghost use mathlib.Core.Path.{_≡_};
+ghost use mathlib.Core.Bool.{false};
 ghost use Prim.Native.Nat.{_*_, _<_, _≤_};
 ghost use lib.ListN.{length};
 ghost use Rattle.netlist.specs.Limits.{mostBlocks};
@@ -203,12 +204,19 @@ fn check_few_rows(file: &[u8], rows: usize, unordered: bool) -> Acceptance
     check_each_row(file, rows, unordered, true, &mut marks)
 }
 
+// A bit for each slot.
+fn mark_room() -> [u8; name_marks::MARK_BYTES]
+    ensures { λ r. ⌜ markBytes false ≡ length r ⌝ }
+{
+    [0; name_marks::MARK_BYTES]
+}
+
 // With a bit for each slot.
 fn check_many_rows(file: &[u8], rows: usize, unordered: bool) -> Acceptance
     requires { ⌜ HasRows (now file) rows ⌝ }
     ensures { λ r. ⌜ Answered (rowsRefusal (operandBy unordered) (fieldsOf (now (file .entry)))) (netlistOf (now (file .entry))) r ⌝ }
 {
-    let mut marks = [0u8; name_marks::MARK_BYTES];
+    let mut marks = mark_room();
     check_each_row(file, rows, unordered, false, &mut marks)
 }
 

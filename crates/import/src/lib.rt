@@ -123,6 +123,13 @@ fn import_names(
     sort_pairs(h, rows, names, result, slots)
 }
 
+// Memory for the names.
+fn name_room() -> [u8; NAME_BYTES]
+    ensures { λ r. ⌜ nameBytes ≡ length r ⌝ }
+{
+    [0; NAME_BYTES]
+}
+
 // The same, with an array for the names.
 fn import_lines(
     text: &[u8],
@@ -135,7 +142,7 @@ fn import_lines(
     ensures { λ r. ⌜ TextImported (now (text .entry)) (now (result .entry)) (now (result .exit)) r ⌝ }
     ensures { λ _. ⌜ length (now (work .exit)) ≡ length (now (work .entry)) ⌝ }
 {
-    let mut names = [0u8; NAME_BYTES];
+    let mut names = name_room();
     import_names(text, h, from, result, &mut names, work)
 }
 

@@ -78,12 +78,19 @@ fn follow(file: &[u8], slots: &[u8], rows: usize, first: usize, list: &mut [u8])
     no_way()
 }
 
+// Slots for the rows of the greatest file.
+fn slot_room() -> [u8; LARGE_WORK_BYTES]
+    ensures { λ r. ⌜ 65536 ≡ length r ⌝ }
+{
+    [0; LARGE_WORK_BYTES]
+}
+
 // The way in a file of this many rows.
 fn find_in(file: &[u8], rows: usize, list: &mut [u8]) -> Way
     requires { ⌜ Source File (now file) rows × (2 * rows ≤ length (now list)) ⌝ }
     ensures { λ r. ⌜ IsWay (sourceRows File (now (file .entry))) (now (list .exit)) (r .count) (r .start) ⌝ }
 {
-    let mut slots = [0u8; LARGE_WORK_BYTES];
+    let mut slots = slot_room();
     let first = gate_loops::find_loop(file, Layout::File, &mut slots, rows);
     if first < rows {
         follow(file, &slots, rows, first, list)

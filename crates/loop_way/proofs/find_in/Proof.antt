@@ -11,5 +11,5 @@ find-loop-requires c κs = (search needs, search needs)
 pub find-in-spec : {M : Type 1} → statement M
 find-in-spec =
     tie.close
-    (tie.spec (λ c. search needs) find-loop-requires (λ c. search needs) (λ c κs. search needs) (λ c κs. search needs)
+    (tie.spec (λ c κs. search needs) (λ c. search needs) find-loop-requires (λ c. search needs) (λ c κs. search needs) (λ c κs. search needs)
     (λ c. search needs) (λ c. search needs) (λ c. search no-way))
