@@ -1,13 +1,13 @@
 // What an AIGER text is not imported for: refusals 22, 24 and 25, each on its line of the text.
-use crate::block_causes::is_first_block;
-use crate::outcome::say;
-use crate::outcome::say_text;
-use crate::outcome::say_where;
-use crate::outcome::say_word;
 use aiger_faults::Cause;
 use aiger_faults::Word;
 use aiger_lines::Section;
 use listing::folds::work_room;
+use pf_words::block_causes::is_first_block;
+use pf_words::outcome::say;
+use pf_words::outcome::say_text;
+use pf_words::outcome::say_where;
+use pf_words::outcome::say_word;
 use text::bytes::first;
 use text::bytes::rest;
 use text::out::one;

@@ -1,15 +1,15 @@
 // Check, Count, Show, and the rows as text.
 use crate::causes::refuse;
-use crate::outcome::OUTPUT;
-use crate::outcome::Outcome;
-use crate::outcome::done_with;
-use crate::outcome::fail_word;
-use crate::outcome::finish;
 use accept::Acceptance;
 use c_answers::PfCounts;
 use c_answers::PfRefusal;
 use listing::rows::put_rows;
 use listing::rows::row_count;
+use pf_words::outcome::OUTPUT;
+use pf_words::outcome::Outcome;
+use pf_words::outcome::done_with;
+use pf_words::outcome::fail_word;
+use pf_words::outcome::finish;
 use text::numbers::Number;
 use text::out::none;
 use text::out::put_byte;

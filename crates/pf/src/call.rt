@@ -1,9 +1,9 @@
 // The words of a call: the command's name, how many words come after it, and the numbers among them.
-use crate::outcome::ERRORS;
-use crate::outcome::OUTPUT;
-use crate::outcome::Outcome;
-use crate::outcome::outcome_if;
-use crate::outcome::say_text;
+use pf_words::outcome::ERRORS;
+use pf_words::outcome::OUTPUT;
+use pf_words::outcome::Outcome;
+use pf_words::outcome::outcome_if;
+use pf_words::outcome::say_text;
 use text::both;
 use text::bytes::same;
 use text::either;

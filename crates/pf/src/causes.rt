@@ -1,16 +1,16 @@
 // A refusal told: its line on standard output, and on standard error a sentence that says what is wrong where, with the values seen.
-use crate::block_causes::say_block_cause;
 use crate::loop_causes::say_loop;
-use crate::outcome::Outcome;
-use crate::outcome::say;
-use crate::outcome::say_text;
-use crate::outcome::say_where;
-use crate::outcome::tell_refusal;
-use crate::row_causes::say_row_cause;
 use c_answers::PfRefusal;
 use listing::rows::fields_of;
 use listing::rows::last_block;
 use listing::rows::row_count;
+use pf_words::block_causes::say_block_cause;
+use pf_words::outcome::Outcome;
+use pf_words::outcome::say;
+use pf_words::outcome::say_text;
+use pf_words::outcome::say_where;
+use pf_words::outcome::tell_refusal;
+use pf_words::row_causes::say_row_cause;
 use text::both;
 use text::bytes::first;
 use text::bytes::get;

@@ -1,10 +1,5 @@
 // Fold, its answers and clocks as lines, and its clocks drawn.
 use crate::causes::refuse;
-use crate::outcome::OUTPUT;
-use crate::outcome::Outcome;
-use crate::outcome::fail_word;
-use crate::outcome::finish;
-use crate::saving::save;
 use c_answers::PfRefusal;
 use fold_core::FoldNumbers;
 use fold_core::FoldRefusal;
@@ -17,6 +12,11 @@ use listing::folds::put_entries;
 use listing::folds::put_numbers;
 use listing::folds::work_room;
 use listing::rows::file_bytes;
+use pf_words::outcome::OUTPUT;
+use pf_words::outcome::Outcome;
+use pf_words::outcome::fail_word;
+use pf_words::outcome::finish;
+use pf_words::saving::save;
 use text::bytes::first;
 use text::numbers::Number;
 use text::out::Out;

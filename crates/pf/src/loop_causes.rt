@@ -1,8 +1,8 @@
 // What a file is not sorted for: refusal 22, and the gates of the loop.
-use crate::outcome::say;
-use crate::outcome::say_text;
 use crate::run::work_room;
 use loop_way::Way;
+use pf_words::outcome::say;
+use pf_words::outcome::say_text;
 use text::out::one;
 
 // How many gates are named of the way to the loop, and how many of the loop.

@@ -2,25 +2,20 @@
 // The script that starts it opens descriptor 3, to which its outcome goes as a digit, and those of a result that is kept (`saving`).
 mod aiger_causes;
 mod answers;
-mod block_causes;
 mod call;
 mod causes;
 mod folding;
 mod importing;
 mod loop_causes;
 mod make;
-mod outcome;
-mod parse;
-mod row_causes;
 mod run;
-mod saving;
 mod sorting;
 
 use call::Command;
 use listing::rows::file_room;
-use outcome::Outcome;
-use outcome::fail;
-use outcome::fail_by_cause;
+use pf_words::outcome::Outcome;
+use pf_words::outcome::fail;
+use pf_words::outcome::fail_by_cause;
 use text::both;
 use text::bytes::first;
 use text::bytes::same;
@@ -169,5 +164,5 @@ fn perform_call() -> Outcome {
 // The outcome of the call is told.
 fn main() {
     let outcome = perform_call();
-    outcome::tell_status(outcome);
+    pf_words::outcome::tell_status(outcome);
 }

@@ -1,12 +1,12 @@
 // Sort: a file whose gates stand in any order, put in order and kept.
 use crate::causes::refuse;
-use crate::outcome::Outcome;
-use crate::outcome::done_with;
 use crate::run::work_room;
-use crate::saving::result_room;
-use crate::saving::save;
 use c_answers::PfRefusal;
 use c_answers::PfWritten;
+use pf_words::outcome::Outcome;
+use pf_words::outcome::done_with;
+use pf_words::saving::result_room;
+use pf_words::saving::save;
 use text::bytes::first;
 use text::out::one;
 

@@ -1,10 +1,10 @@
--- `pf::parse::word_of` is safe and ends. The end is at most the length of the text; the measure is what is left of it.
+-- `row_text::word_of` is safe and ends. The end is at most the length of the text; the measure is what is left of it.
 -- Assumes nothing.
 use Prim.Native.Nat.{_-_, _≤_}
 use lib.ListN.{length}
 use borrow.Author.Needs.{needs}
-use Rattle.pf.proofs.parse.word_of.Statement.{statement}
-use Rattle.pf.proofs.parse.word_of.Tie as tie
+use Rattle.row_text.proofs.word_of.Statement.{statement}
+use Rattle.row_text.proofs.word_of.Tie as tie
 
 abbrev Inv-bytes : tie.InvT-bytes
 Inv-bytes text end₀ end = end ≤ length text

@@ -1,11 +1,11 @@
--- `pf::parse::read_text` is safe and ends. The rooms keep their lengths; the measure is what is left of the text.
+-- `row_text::read_text` is safe and ends. The rooms keep their lengths; the measure is what is left of the text.
 -- Assumes nothing.
 use Prim.Native.Nat.{_-_}
 use mathlib.Core.Path.{_≡_}
 use lib.ListN.{length}
 use borrow.Author.Needs.{needs}
-use Rattle.pf.proofs.parse.read_text.Statement.{statement}
-use Rattle.pf.proofs.parse.read_text.Tie as tie
+use Rattle.row_text.proofs.read_text.Statement.{statement}
+use Rattle.row_text.proofs.read_text.Tie as tie
 
 abbrev Inv-lines : tie.InvT-lines
 Inv-lines text numbers₀ result₀ line₀ rows₀ at₀ numbers result line rows at = (length numbers ≡ length numbers₀) × (length result ≡ length result₀)

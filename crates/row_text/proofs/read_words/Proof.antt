@@ -1,11 +1,11 @@
--- `pf::parse::read_words` is safe and ends. The index is at most the length, and there is room for as many numbers as before; the measure is what is left of the line.
+-- `row_text::read_words` is safe and ends. The index is at most the length, and there is room for as many numbers as before; the measure is what is left of the line.
 -- Assumes nothing.
 use Prim.Native.Nat.{_-_, _≤_}
 use mathlib.Core.Path.{_≡_}
 use lib.ListN.{length}
 use borrow.Author.Needs.{needs}
-use Rattle.pf.proofs.parse.read_words.Statement.{statement}
-use Rattle.pf.proofs.parse.read_words.Tie as tie
+use Rattle.row_text.proofs.read_words.Statement.{statement}
+use Rattle.row_text.proofs.read_words.Tie as tie
 
 abbrev Inv-bytes : tie.InvT-bytes
 Inv-bytes line numbers₀ words₀ i₀ numbers words i = (i ≤ length line) × (length numbers ≡ length numbers₀)

@@ -3,8 +3,8 @@
 use Prim.Native.Nat.{_-_, _≤_}
 use lib.ListN.{length}
 use borrow.Author.Needs.{needs}
-use Rattle.pf.proofs.block_causes.first_used.Statement.{statement}
-use Rattle.pf.proofs.block_causes.first_used.Tie as tie
+use Rattle.pf_words.proofs.block_causes.first_used.Statement.{statement}
+use Rattle.pf_words.proofs.block_causes.first_used.Tie as tie
 
 abbrev Inv-bytes : tie.InvT-bytes
 Inv-bytes block at₀ at = (at₀ ≤ at)

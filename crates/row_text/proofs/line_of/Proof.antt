@@ -1,10 +1,10 @@
--- `pf::parse::line_of` is safe and ends. The measure is what is left of the text.
+-- `row_text::line_of` is safe and ends. The measure is what is left of the text.
 -- Assumes nothing.
 use Prim.Native.Nat.{_-_}
 use lib.ListN.{length}
 use borrow.Author.Needs.{needs}
-use Rattle.pf.proofs.parse.line_of.Statement.{statement}
-use Rattle.pf.proofs.parse.line_of.Tie as tie
+use Rattle.row_text.proofs.line_of.Statement.{statement}
+use Rattle.row_text.proofs.line_of.Tie as tie
 
 abbrev Inv-lines : tie.InvT-lines
 Inv-lines text row line₀ rows₀ at₀ line rows at = Unit {0}

@@ -1,10 +1,10 @@
--- `pf::parse::first_byte` is safe and ends. The index is at most the length; the measure is what is left of it.
+-- `row_text::first_byte` is safe and ends. The index is at most the length; the measure is what is left of it.
 -- Assumes nothing.
 use Prim.Native.Nat.{_-_, _≤_}
 use lib.ListN.{length}
 use borrow.Author.Needs.{needs}
-use Rattle.pf.proofs.parse.first_byte.Statement.{statement}
-use Rattle.pf.proofs.parse.first_byte.Tie as tie
+use Rattle.row_text.proofs.first_byte.Statement.{statement}
+use Rattle.row_text.proofs.first_byte.Tie as tie
 
 abbrev Inv-bytes : tie.InvT-bytes
 Inv-bytes line i₀ i = (i ≤ length line)

@@ -2,8 +2,8 @@
 -- Assumes nothing.
 use Prim.Native.Nat.{_-_, _≤_}
 use borrow.Author.Needs.{needs}
-use Rattle.pf.proofs.row_causes.first_named.Statement.{statement}
-use Rattle.pf.proofs.row_causes.first_named.Tie as tie
+use Rattle.pf_words.proofs.row_causes.first_named.Statement.{statement}
+use Rattle.pf_words.proofs.row_causes.first_named.Tie as tie
 
 abbrev Inv-rows : tie.InvT-rows
 Inv-rows file fields row earlier₀ earlier = (earlier ≤ row)
