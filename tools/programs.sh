@@ -1,4 +1,5 @@
-# Sourced by the scripts pf and print, which set `top`, the repository's folder, `call`, the script's name, and `program`, the program that it runs.
+# Sourced by the scripts pf and print, which set `top`, the repository's folder, `call`, the script's name, `builder`, a call of it
+# that needs the program and no file, and `program`, the program that it runs.
 # make_current sees to it that the program is there, made from the sources that are there.
 #
 # A build makes one program, and proves only what that stands on. Once all of it is proved and the program has written
@@ -83,12 +84,11 @@ wait_for_builder() {
 # ---- the build
 
 # Runs rt in a process group of its own (by setsid; without that command only rt itself would be ended), and passes on what it says of crates.
-# rt starts as many crates at once as RT_JOBS says and waits for all of them: with more than there are processors, none of these is idle for long.
 run_rt() {
     own_group=$(command -v setsid)
     $own_group sh -c '
         cd -- "$1/" || exit 2
-        { RT_JOBS=${RT_JOBS:-4} rt check "$3" 2>&1; echo "ended $?"; } | {
+        { rt check "$3" 2>&1; echo "ended $?"; } | {
             trap "" PIPE
             while IFS= read -r line; do
                 last=$line
@@ -129,6 +129,7 @@ forget_program() {
 
 build() {
     command -v rt >/dev/null || fail "the Rattle toolchain is needed to build it: no command rt"
+    . "$top/tools/jobs.sh"
     before=$(sources)
     forget_program
     rm -f "$mark"
@@ -151,7 +152,7 @@ lock_unless_current() {
         is_current && return 1
         mkdir -p "$top/target" 2>/dev/null
         [ -w "$top/target" ] ||
-            fail "the program in $top is not built, or its sources have changed: its owner has to build it, by calling $top/$call"
+            fail "the program in $top is not built, or its sources have changed: its owner has to build it, by calling $top/$builder"
         tries=$((tries + 1))
         [ "$tries" -le 100 ] || fail "cannot make $lock"
     done

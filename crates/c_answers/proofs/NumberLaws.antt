@@ -5,8 +5,8 @@ use mathlib.Core.Path.{_≡_, refl}
 use Rattle.questions.specs.Questions.{Refusal}
 use Rattle.fold_refusals.specs.FoldRefusals.{foldRefusalIn}
 use Rattle.fold_refusals.specs.declared.FoldRefusal.{FoldRefusal}
-use Rattle.fold_core.specs.declared.Folding.{Folding}
-use Rattle.fold_core.specs.declared.Folding.the-variants.{Refused}
+use Rattle.fold_answers.specs.declared.Folding.{Folding}
+use Rattle.fold_answers.specs.declared.Folding.the-variants.{Refused}
 use Rattle.c_answers.specs.AnswerNumbers.{refusalNumbers, refusedCounts, foldedNumbers, writtenNumbers}
 use Rattle.c_answers.specs.declared.PfRefusal.{PfRefusal}
 use Rattle.c_answers.specs.declared.PfCounts.{PfCounts}

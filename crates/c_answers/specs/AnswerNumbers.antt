@@ -3,8 +3,8 @@
 -- Assumes nothing.
 use Prim.Native.Nat.{ℕ}
 use Rattle.questions.specs.Questions.{Refusal, Counts}
-use Rattle.fold_core.specs.FoldAnswers.{foldingRefusal, numbersIn}
-use Rattle.fold_core.specs.declared.Folding.{Folding}
+use Rattle.fold_answers.specs.FoldAnswers.{foldingRefusal, numbersIn}
+use Rattle.fold_answers.specs.declared.Folding.{Folding}
 use Rattle.c_answers.specs.declared.PfRefusal.{PfRefusal}
 use Rattle.c_answers.specs.declared.PfCounts.{PfCounts}
 use Rattle.c_answers.specs.declared.PfFolded.{PfFolded}

@@ -5,19 +5,19 @@ ghost use Rattle.netlist.specs.Limits.{mostBlocks, mostRows};
 ghost use Rattle.questions.specs.Questions.{noRefusal};
 ghost use Rattle.blockfile.specs.CountCode.{countsIn, EachAtMost};
 ghost use Rattle.accept.specs.Refusals.{refusalIn};
-ghost use Rattle.run.specs.RunAnswers.{runRefusalIn};
+ghost use Rattle.run_answers.specs.RunAnswers.{runRefusalIn};
 ghost use Rattle.fold_refusals.specs.FoldRefusals.{foldRefusalIn};
 ghost use Rattle.show.specs.ShowOutcome.{partOffset};
-ghost use Rattle.import.specs.ImportAnswers.{importRefusalIn};
-ghost use Rattle.sort.specs.SortAnswers.{sortRefusalIn};
+ghost use Rattle.import_answers.specs.ImportAnswers.{importRefusalIn};
+ghost use Rattle.sort_answers.specs.SortAnswers.{sortRefusalIn};
 ghost use Rattle.c_answers.specs.AnswerNumbers.{refusalNumbers, acceptedCounts, refusedCounts, foldedNumbers, writtenNumbers};
 use accept::FileRefusal;
 use blockfile::count::Counts;
-use fold_core::FoldRefusal;
-use fold_core::Folding;
-use import::ImportRefusal;
-use run::RunRefusal;
-use sort::SortRefusal;
+use fold_answers::Folding;
+use fold_refusals::FoldRefusal;
+use import_answers::ImportRefusal;
+use run_answers::RunRefusal;
+use sort_answers::SortRefusal;
 
 #[repr(C)]
 pub struct PfRefusal {
@@ -43,13 +43,19 @@ pub fn file_numbers(refusal: FileRefusal) -> PfRefusal
 pub fn run_numbers(refusal: RunRefusal) -> PfRefusal
     ensures { λ r. ⌜ r ≡ refusalNumbers (runRefusalIn refusal) ⌝ }
 {
-    told(run::number_of(refusal), run::place_of(refusal))
+    told(
+        run_answers::number_of(refusal),
+        run_answers::place_of(refusal),
+    )
 }
 
 fn fold_numbers(refusal: FoldRefusal) -> PfRefusal
     ensures { λ r. ⌜ r ≡ refusalNumbers (foldRefusalIn refusal) ⌝ }
 {
-    told(fold_core::number_of(refusal), fold_core::place_of(refusal))
+    told(
+        fold_refusals::number_of(refusal),
+        fold_refusals::place_of(refusal),
+    )
 }
 
 #[repr(C)]
@@ -191,8 +197,8 @@ fn unwritten(number: u32, place: u32) -> PfWritten
 pub fn unsorted(refusal: SortRefusal) -> PfWritten
     ensures { λ r. ⌜ r ≡ writtenNumbers (sortRefusalIn refusal) 0 ⌝ }
 {
-    let number = sort::number_of(refusal);
-    let place = sort::place_of(refusal);
+    let number = sort_answers::number_of(refusal);
+    let place = sort_answers::place_of(refusal);
     unwritten(number, place)
 }
 
@@ -200,7 +206,7 @@ pub fn unsorted(refusal: SortRefusal) -> PfWritten
 pub fn unimported(refusal: ImportRefusal) -> PfWritten
     ensures { λ r. ⌜ r ≡ writtenNumbers (importRefusalIn refusal) 0 ⌝ }
 {
-    let number = import::number_of(refusal);
-    let place = import::place_of(refusal);
+    let number = import_answers::number_of(refusal);
+    let place = import_answers::place_of(refusal);
     unwritten(number, place)
 }

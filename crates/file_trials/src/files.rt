@@ -1,10 +1,10 @@
 // The lines that try Check, Count and Show.
-use crate::bytes::one_if;
-use crate::bytes::size_at;
 use crate::tell::Seen;
 use crate::tell::Tally;
 use blockfile::count::Counts;
-use phasefold::CountAnswer;
+use count::CountAnswer;
+use scripted_files::bytes::one_if;
+use scripted_files::bytes::size_at;
 use text::both;
 use text::bytes::first;
 use text::bytes::get;
@@ -16,7 +16,7 @@ use text::numbers::number_at;
 fn try_check(tally: Tally, numbers: &[u32], file: &[u8]) -> Tally {
     let size = size_at(numbers, 1);
     let expected = Seen(number_at(numbers, 3), number_at(numbers, 4));
-    let value = crate::tell::of_check(phasefold::check(first(file, size)));
+    let value = crate::tell::of_check(accept::accept(first(file, size)));
     crate::tell::outcome(tally, value, expected, true)
 }
 
@@ -26,7 +26,7 @@ fn count_accepted(file: &[u8], longest: u16) -> u32 {
     let mut size: u16 = 0;
     'sizes: while size < longest {
         size += 1;
-        let answer = phasefold::check(first(file, size as usize));
+        let answer = accept::accept(first(file, size as usize));
         let value = crate::tell::of_check(answer);
         let more = one_if(value.0 == 0);
         accepted = std::num::wrapping_add_u32(accepted, more);
@@ -36,14 +36,14 @@ fn count_accepted(file: &[u8], longest: u16) -> u32 {
 
 // Lengths LONGEST is COUNT
 fn try_lengths(tally: Tally, numbers: &[u32], file: &[u8]) -> Tally {
-    let longest = crate::bytes::field_at(numbers, 1);
+    let longest = scripted_files::bytes::field_at(numbers, 1);
     let accepted = count_accepted(file, longest);
     crate::tell::number(tally, accepted, number_at(numbers, 3))
 }
 
 // 1 if the first `blocks` blocks are refused with 3 at the last of them.
 fn cut_refused(file: &[u8], blocks: u16) -> u32 {
-    let answer = phasefold::check(first(file, 512 * blocks as usize));
+    let answer = accept::accept(first(file, 512 * blocks as usize));
     let value = crate::tell::of_check(answer);
     let last = std::num::wrapping_sub_u16(blocks, 1);
     one_if(crate::tell::alike(value, Seen(3, last as u32)))
@@ -62,7 +62,7 @@ fn count_cuts(file: &[u8], most: u16) -> u32 {
 
 // Blocks MOST is COUNT
 fn try_blocks(tally: Tally, numbers: &[u32], file: &[u8]) -> Tally {
-    let most = crate::bytes::field_at(numbers, 1);
+    let most = scripted_files::bytes::field_at(numbers, 1);
     let refused = count_cuts(file, most);
     crate::tell::number(tally, refused, number_at(numbers, 3))
 }
@@ -79,7 +79,7 @@ fn flip(file: &mut [u8], i: u16) {
 // 1 if the first block with that bit changed is refused with 2 at block 0.
 fn flip_refused(file: &mut [u8], i: u16) -> u32 {
     flip(file, i);
-    let answer = phasefold::check(first(file, 512));
+    let answer = accept::accept(first(file, 512));
     flip(file, i);
     let value = crate::tell::of_check(answer);
     one_if(crate::tell::alike(value, Seen(2, 0)))
@@ -142,7 +142,7 @@ fn counts_right(counts: Counts, numbers: &[u32]) -> bool {
 // Numbers SIZE is NODES INPUTS REGISTERS UNKNOWN OUTPUTS, of a file that Count accepts
 fn try_counts(tally: Tally, numbers: &[u32], file: &[u8]) -> Tally {
     let size = size_at(numbers, 1);
-    match phasefold::count(first(file, size)) {
+    match count::count(first(file, size)) {
         CountAnswer::Counted(counts) => {
             print_counts(counts);
             crate::tell::judged(tally, counts_right(counts, numbers))
@@ -155,7 +155,7 @@ fn try_counts(tally: Tally, numbers: &[u32], file: &[u8]) -> Tally {
 fn try_uncounted(tally: Tally, numbers: &[u32], file: &[u8]) -> Tally {
     let size = size_at(numbers, 1);
     let expected = Seen(number_at(numbers, 3), number_at(numbers, 4));
-    match phasefold::count(first(file, size)) {
+    match count::count(first(file, size)) {
         CountAnswer::Counted(_) => crate::tell::judged(tally, false),
         CountAnswer::Refused(refusal) => {
             let value = crate::tell::of_file(refusal);
@@ -181,7 +181,7 @@ fn try_show(tally: Tally, numbers: &[u32], file: &[u8]) -> Tally {
     let expected = Seen(number_at(numbers, 4), number_at(numbers, 5));
     let mut number: u32 = 77;
     let mut place: u32 = 77;
-    let shown = phasefold::show(netlist, block, &mut number, &mut place);
+    let shown = show::show(netlist, block, &mut number, &mut place);
     let right = part_right(file, block, shown, number);
     crate::tell::outcome(tally, Seen(number, place), expected, right)
 }

@@ -3,11 +3,8 @@ ghost use mathlib.Core.Path.{_≡_};
 ghost use lib.ListN.{length};
 use tell::Tally;
 
-mod build;
-mod bytes;
 mod files;
 mod runs;
-mod script;
 mod sorts;
 mod tell;
 
@@ -49,7 +46,7 @@ fn finish(letter: u8, tally: Tally) -> Tally {
 
 // Builds a file, or tries Check, Count or Show.
 fn obey_file(letter: u8, numbers: &[u32], file: &mut [u8], kept: &mut [u8], tally: Tally) -> Tally {
-    build::obey(letter, numbers, file, kept);
+    scripted_files::build::obey(letter, numbers, file, kept);
     files::obey(letter, numbers, file, tally)
 }
 
@@ -80,7 +77,7 @@ fn obey_line(
     let mut words = [0u32; 16];
     let numbers: &mut [u32] = &mut words;
     let letter = text::bytes::get(line, 0);
-    script::read_numbers(line, numbers);
+    scripted_files::script::read_numbers(line, numbers);
     echo(letter, line);
     let tried = obey_file(letter, numbers, file, kept, tally);
     let sorted = sorts::obey(letter, numbers, file, kept, result, tried);
@@ -104,7 +101,7 @@ fn obey_script(
         if text.len() <= start {
             return;
         }
-        let line = script::line_at(text, start);
+        let line = scripted_files::script::line_at(text, start);
         tally = obey_line(line, file, kept, inputs, choices, result, tally);
         let size = std::num::wrapping_add_usize(line.len(), 1);
         start = std::num::wrapping_add_usize(start, size);

@@ -1,10 +1,12 @@
 // The lines that try Run: its lists, what it writes, what it leaves, and questions 17 to 20.
-use crate::bytes::all_from;
-use crate::bytes::byte_at;
-use crate::bytes::one_if;
-use crate::bytes::size_at;
+ghost use mathlib.Core.Path.{_≡_};
+ghost use lib.ListN.{length};
 use crate::tell::Seen;
 use crate::tell::Tally;
+use scripted_files::bytes::all_from;
+use scripted_files::bytes::byte_at;
+use scripted_files::bytes::one_if;
+use scripted_files::bytes::size_at;
 use text::both;
 use text::bytes::first;
 use text::bytes::get;
@@ -16,6 +18,13 @@ use text::numbers::number_at;
 pub const RESULT_FILL: u8 = 170;
 
 pub const WORK_FILL: u8 = 85;
+
+// The most work that is lent, and some more.
+pub fn work_room() -> [u8; 65552]
+    ensures { λ r. ⌜ 65552 ≡ length r ⌝ }
+{
+    [WORK_FILL; 65552]
+}
 
 // ---- the lists
 
@@ -68,7 +77,7 @@ fn run_lent(
     let given = first(inputs, size_at(numbers, 4));
     let result_end = least(size_at(numbers, 5), result.len());
     let work_end = least(size_at(numbers, 6), work.len());
-    let answer = phasefold::run(
+    let answer = run::run(
         netlist,
         steps,
         chosen,
@@ -102,7 +111,7 @@ fn try_run(
     inputs: &[u8],
     result: &mut [u8],
 ) -> Tally {
-    let mut works = [WORK_FILL; 65552];
+    let mut works = work_room();
     let work: &mut [u8] = &mut works;
     fill(result, RESULT_FILL);
     let value = run_lent(numbers, file, choices, inputs, result, work);

@@ -1,11 +1,10 @@
 // The line that tries Sort: its answer, what it writes and leaves, and questions 1 to 10, 22 and 23.
-use crate::bytes::all_from;
-use crate::bytes::size_at;
 use crate::runs::RESULT_FILL;
-use crate::runs::WORK_FILL;
 use crate::tell::Seen;
 use crate::tell::Tally;
-use sort::Sorting;
+use scripted_files::bytes::all_from;
+use scripted_files::bytes::size_at;
+use sort_answers::Sorting;
 use text::both;
 use text::bytes::first;
 use text::bytes::least;
@@ -18,7 +17,7 @@ fn sort_lent(numbers: &[u32], file: &[u8], result: &mut [u8], work: &mut [u8]) -
     let netlist = first(file, size_at(numbers, 1));
     let result_end = least(size_at(numbers, 2), result.len());
     let work_end = least(size_at(numbers, 3), work.len());
-    phasefold::sort(netlist, &mut result[0..result_end], &mut work[0..work_end])
+    sort::sort(netlist, &mut result[0..result_end], &mut work[0..work_end])
 }
 
 // Whether the result begins with the file that is expected, is zero after it to its end, and is unchanged behind.
@@ -39,7 +38,7 @@ fn try_sort(
     expected: &[u8],
     result: &mut [u8],
 ) -> Tally {
-    let mut works = [WORK_FILL; 65552];
+    let mut works = crate::runs::work_room();
     let work: &mut [u8] = &mut works;
     crate::runs::fill(result, RESULT_FILL);
     let answer = sort_lent(numbers, file, result, work);

@@ -1,9 +1,9 @@
 // What is seen is printed behind its line of the script, and held to what the line expects.
 use accept::Acceptance;
 use accept::FileRefusal;
-use run::RunAnswer;
-use run::RunRefusal;
-use sort::SortRefusal;
+use run_answers::RunAnswer;
+use run_answers::RunRefusal;
+use sort_answers::SortRefusal;
 use text::both;
 
 // A refusal's number and place by the scope paper; 0 and 0 for success.
@@ -83,7 +83,7 @@ pub fn print_number(value: u64) {
 // One expectation more; one that is not met says so in its line.
 pub fn judged(tally: Tally, right: bool) -> Tally {
     let asked = std::num::wrapping_add_u32(tally.asked, 1);
-    let met = std::num::wrapping_add_u32(tally.met, crate::bytes::one_if(right));
+    let met = std::num::wrapping_add_u32(tally.met, scripted_files::bytes::one_if(right));
     if !right {
         io::write_all(1, b" NOT AS EXPECTED");
     }

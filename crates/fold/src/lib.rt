@@ -1,7 +1,7 @@
 // Fold: the public operation, with the caller's clock list.
-ghost use Rattle.fold.specs.FoldedOutcome.{Folded};
+ghost use Rattle.fold_answers.specs.FoldedOutcome.{Folded};
 use clock_list::Clock;
-use fold_core::Folding;
+use fold_answers::Folding;
 
 // The fold, its clock entries in the list and its file in the result; work is cleared.
 pub fn fold(
@@ -15,7 +15,7 @@ pub fn fold(
 {
     let count = clocks.len();
     let answer = fold_core::fold_core(file, wish, result, work, count);
-    let used = fold_core::used_of(answer);
+    let used = fold_answers::used_of(answer);
     clock_list::set_clocks(clocks, work, used);
     memory::clear(work);
     answer

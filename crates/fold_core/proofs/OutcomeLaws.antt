@@ -1,37 +1,33 @@
 -- The whole outcome of Fold: the refusal, the numbers and the result of the model, and demand 3 between the file given and the file left.
 -- Assumes nothing.
-use Prim.Native.Nat.{ℕ, _*_, _<_}
-use mathlib.Core.Path.{_≡_, refl, sym, ap, _∙_, subst}
+use Prim.Native.Nat.{ℕ, _<_}
+use mathlib.Core.Path.{_≡_, refl, sym, ap, _∙_}
 use mathlib.Core.Bool.{true, false, cond}
 use mathlib.Core.List.{List, [], _∷_}
 use mathlib.Core.Option.{Option, none, some}
 use native.Mathlib.Omega.{arith}
 use lib.Dec.{eqb}
 use lib.ListN.{length, replicate}
-use lib.Seq.{take-at}
-use borrow.Author.Tests.{ne-eqb}
 use Rattle.memory.specs.Fields.{IsBytes}
 use Rattle.netlist.specs.Rows.{Row}
-use Rattle.netlist.specs.FileFormat.{netlistOf, fileOf, blocksFor, fileLeft}
-use Rattle.netlist.proofs.FileLaws.{file-length}
+use Rattle.netlist.specs.FileFormat.{netlistOf}
 use Rattle.lasso.specs.LassoSearch.{Lasso, findLasso}
 use Rattle.abstraction.specs.Fold.{FoldAnswer, foldFromLasso, foldNetlist}
 use Rattle.questions.specs.Questions.{Refusal, noRefusal, firstRefusal, question}
 use Rattle.fold_questions.specs.FoldQuestions.{hasLasso, foldRefusal}
 use Rattle.questions.proofs.QuestionLaws.{same-number, first-before, first-behind}
-use Rattle.guarantees.specs.FoldGuarantee.{FoldGuarantee}
-use Rattle.guarantees.proofs.FoldPromise.{fold-guarantee}
 use Rattle.ternary_step.proofs.ReadyLaws.{work-ready-of}
 use Rattle.fold_refusals.specs.FoldRefusals.{foldRefusalIn, earlyRefusal, askedRefusal, Questioned}
-use Rattle.fold_core.specs.FoldAnswers.{foldingRefusal, numbersIn, foldAnswered, numbersOf, entriesOf, resultOf}
-use Rattle.fold_core.specs.FoldOutcome.{LeftFolded, CoreFolded}
-use Rattle.fold_core.specs.FoldParts.{FoldReady, foldingOf, FoldMade}
 use Rattle.fold_refusals.specs.declared.asking.Asked.{Asked}
 use Rattle.fold_refusals.specs.declared.asking.Asked.the-variants.{Passed, Stopped}
 use Rattle.fold_refusals.specs.declared.FoldRefusal.{FoldRefusal}
-use Rattle.fold_core.specs.declared.Folding.{Folding}
-use Rattle.fold_core.specs.declared.Folding.the-variants.{Refused}
 use Rattle.fold_refusals.proofs.EarlyLaws.{fold-number-positive}
+use Rattle.fold_answers.specs.FoldAnswers.{foldingRefusal, numbersIn, foldAnswered, numbersOf, entriesOf, resultOf}
+use Rattle.fold_answers.specs.FoldOutcome.{CoreFolded}
+use Rattle.fold_answers.specs.declared.Folding.{Folding}
+use Rattle.fold_answers.specs.declared.Folding.the-variants.{Refused}
+use Rattle.fold_answers.proofs.CoreLaws.{core-refused, core-answered}
+use Rattle.fold_core.specs.FoldParts.{FoldReady, foldingOf, FoldMade}
 use Rattle.fold_core.proofs.PassedLaws.{earlyAsked, early-memory}
 
 -- ---- 16, behind questions 1 to 15
@@ -73,14 +69,6 @@ numbers-same : (o : Option FoldAnswer) → numbersIn (foldingOf o) ≡ numbersOf
 numbers-same none = refl
 numbers-same (some a) = refl
 
--- The file of the rows at the start of a result.
-left-file : (file : List ℕ) (wish : ℕ) (G : FoldGuarantee file wish) (result : List ℕ) → LeftFolded file (G .answer .phases) (fileLeft (resultOf (some (G .answer)) result) (G .answer .after))
-left-file file wish G result =
-    let new = G .answer .rows in
-    let n : length (fileOf new) ≡ 512 * blocksFor (G .answer .after) = file-length new ∙ ap (λ (k : ℕ). 512 * blocksFor k) (sym (G .words .after)) in
-    subst (LeftFolded file (G .answer .phases)) (sym (take-at (fileOf new) _ (512 * blocksFor (G .answer .after)) n))
-    (record { accepted = G .accepted; stands = rw (G .read-back) (G .stands); behaves = rw (G .read-back) (G .behaves) })
-
 -- The work memory is cleared, and keeps its length.
 module _ {file : List ℕ} {wish clocks : ℕ} (result work cleared : List ℕ) (long : length cleared ≡ length work) {asked : Asked} (Q : Questioned file wish (length result) (length cleared) clocks asked) where
   early-is : askedRefusal asked ≡ earlyRefusal file wish (length result) (length work) clocks
@@ -90,20 +78,7 @@ module _ {file : List ℕ} {wish clocks : ℕ} (result work cleared : List ℕ) 
   core-stopped {r} e =
       let q : foldRefusalIn r ≡ earlyRefusal file wish (length result) (length work) clocks = sym (ap askedRefusal e) ∙ early-is in
       let positive = fold-number-positive r in
-      let f : foldRefusalIn r ≡ foldRefusal file wish (length result) (length work) clocks = q ∙ sym (early-refuses file wish (length result) (length work) clocks (omega (arith, same-number q))) in
-      let none-is : foldAnswered file wish (length result) (length work) clocks ≡ none = rw (ne-eqb (foldRefusal file wish (length result) (length work) clocks .number) 0 (λ z. omega (arith, same-number f))) refl in
-      let refused : foldRefusalIn r ≡ noRefusal → ⊥ = λ z. omega (arith, same-number z) in
-      record {
-        done = record {
-          refusal = f;
-          numbers = sym (ap numbersOf none-is);
-          written = sym (ap (λ (o : Option FoldAnswer). resultOf o result) none-is);
-          guarantee = λ z. absurd (refused z);
-          left = λ z. absurd (refused z);
-        };
-        entries = sym (ap entriesOf none-is);
-        few = (omega arith, omega arith);
-      }
+      core-refused file wish clocks result work cleared r (q ∙ sym (early-refuses file wish (length result) (length work) clocks (omega (arith, same-number q))))
 
   pub fold-ready : {n : ℕ} → asked ≡ Passed n → cleared ≡ replicate (length work) 0 → FoldReady file n wish result cleared
   fold-ready {n} e z =
@@ -123,27 +98,8 @@ module _ {file : List ℕ} {wish clocks : ℕ} (result work cleared : List ℕ) 
     numbers-are : numbersIn answer ≡ numbersOf (foldNetlist (netlistOf file) wish)
     numbers-are = ap numbersIn (M .answer-is) ∙ numbers-same (foldNetlist (netlistOf file) wish)
 
-    guaranteed : foldingRefusal answer ≡ noRefusal → FoldGuarantee file wish
-    guaranteed z = fold-guarantee file bytes wish (length result) (length work) clocks (sym refusal-is ∙ z)
-
-    left-is : foldingRefusal answer ≡ noRefusal → LeftFolded file (numbersIn answer .phases) (fileLeft result′ (numbersIn answer .after))
-    left-is z =
-        let G = guaranteed z in
-        let a : numbersIn answer ≡ numbersOf (some (G .answer)) = numbers-are ∙ ap numbersOf (G .folds) in
-        let w : result′ ≡ resultOf (some (G .answer)) result = M .written ∙ ap (λ (o : Option FoldAnswer). resultOf o result) (G .folds) in
-        rw (w, a) (left-file file wish G result)
-
     pub core-passed : CoreFolded file wish clocks result result′ work work′ answer
     core-passed =
         let m = early-memory file wish (length result) (length work) clocks early-none in
-        record {
-          done = record {
-            refusal = refusal-is;
-            numbers = numbers-are ∙ sym (ap numbersOf answered-is);
-            written = M .written ∙ sym (ap (λ (o : Option FoldAnswer). resultOf o result) answered-is);
-            guarantee = guaranteed;
-            left = left-is;
-          };
-          entries = M .entries ∙ sym (ap entriesOf answered-is);
-          few = (omega (arith, M .few, m .clocks-long), M .few);
-        }
+        core-answered file wish clocks result result′ work work′ answer bytes refusal-is (numbers-are ∙ sym (ap numbersOf answered-is)) (M .written ∙ sym (ap (λ (o : Option FoldAnswer). resultOf o result) answered-is))
+        (M .entries ∙ sym (ap entriesOf answered-is)) (omega (arith, M .few, m .clocks-long), M .few)

@@ -34,13 +34,13 @@ use Rattle.ternary_step.proofs.ReadyLaws.{analysis-ready}
 use Rattle.clock_words.proofs.EntryLaws.{entry-kept}
 use Rattle.unrolling.specs.UnrollMap.{Room}
 use Rattle.fold_memory.specs.WorkMap.{entryIn, entriesIn}
-use Rattle.fold_core.specs.FoldAnswers.{numbersOf, entriesOf, resultOf}
+use Rattle.fold_answers.specs.FoldAnswers.{numbersOf, entriesOf, resultOf}
 use Rattle.fold_refusals.specs.FoldRefusals.{earlyRefusal}
 use Rattle.fold_core.specs.FoldParts.{FoldReady, foldingOf, FoldMade}
 use Rattle.fold_core.specs.FoldStages.{EntriesKept, FoldWritten, NumbersFit, numbersFrom}
-use Rattle.fold_core.specs.declared.FoldNumbers.{FoldNumbers}
+use Rattle.fold_answers.specs.declared.FoldNumbers.{FoldNumbers}
 use Rattle.fold_refusals.specs.declared.FoldRefusal.the-variants.{NoLasso}
-use Rattle.fold_core.specs.declared.Folding.the-variants.{Done, Refused}
+use Rattle.fold_answers.specs.declared.Folding.the-variants.{Done, Refused}
 
 -- ---- the entries that stay
 

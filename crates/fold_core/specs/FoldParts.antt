@@ -12,10 +12,10 @@ use Rattle.questions.specs.Questions.{noRefusal}
 use Rattle.fold_memory.specs.WorkMap.{entriesIn}
 use Rattle.ternary_step.specs.StateMap.{ClearedWork}
 use Rattle.fold_refusals.specs.FoldRefusals.{earlyRefusal}
-use Rattle.fold_core.specs.FoldAnswers.{usedIn, numbersOf, entriesOf, resultOf}
+use Rattle.fold_answers.specs.FoldAnswers.{usedIn, numbersOf, entriesOf, resultOf}
 use Rattle.fold_refusals.specs.declared.FoldRefusal.the-variants.{NoLasso}
-use Rattle.fold_core.specs.declared.Folding.{Folding}
-use Rattle.fold_core.specs.declared.Folding.the-variants.{Done, Refused}
+use Rattle.fold_answers.specs.declared.Folding.{Folding}
+use Rattle.fold_answers.specs.declared.Folding.the-variants.{Done, Refused}
 
 -- Questions 1 to 15 are passed, by a file of n rows and some clock list, and the work is cleared.
 pub record FoldReady (file : List ℕ) (n wish : ℕ) (result work : List ℕ) : Type 0 where

@@ -13,7 +13,7 @@ use Rattle.netlist.specs.FileFormat.{fileIn}
 use Rattle.abstraction.specs.Fold.{foldWith}
 use Rattle.lasso_finder.specs.declared.Clocks.{Clocks}
 use Rattle.fold_memory.specs.WorkMap.{knownIn, entryOffset}
-use Rattle.fold_core.specs.declared.FoldNumbers.{FoldNumbers}
+use Rattle.fold_answers.specs.declared.FoldNumbers.{FoldNumbers}
 
 -- The clock is what the work memory has of the first n rows in N phases.
 abbrev pub KnownAs : (ℕ → ℕ → Ternary) → ℕ → ℕ → List ℕ → Type 0

@@ -1,5 +1,3 @@
--- Fold's answers, its outcome over plain slices, and what its stages hand on.
-pub mod FoldAnswers
-pub mod FoldOutcome
+-- What Fold's stages are given and hand on.
 pub mod FoldParts
 pub mod FoldStages

@@ -1,38 +1,11 @@
 // Fold over plain slices: questions 1 to 16, then the stages in turn; the clock entries stay packed in the work memory.
-ghost use mathlib.Core.Path.{_≡_};
-ghost use Rattle.fold_core.specs.FoldAnswers.{usedIn};
-ghost use Rattle.fold_core.specs.FoldOutcome.{CoreFolded};
-pub use fold_refusals::FoldRefusal;
+ghost use Rattle.fold_answers.specs.FoldOutcome.{CoreFolded};
+use fold_answers::FoldNumbers;
+use fold_answers::Folding;
+use fold_refusals::FoldRefusal;
 use fold_refusals::asking::Asked;
-pub use fold_refusals::number_of;
-pub use fold_refusals::place_of;
 
 mod stages;
-
-// Stem, cycle, phase count, used generators, and the row counts before and after.
-pub struct FoldNumbers {
-    pub stem: u32,
-    pub cycle: u32,
-    pub phases: u32,
-    pub used: u32,
-    pub before: u32,
-    pub after: u32,
-}
-
-pub enum Folding {
-    Done(FoldNumbers),
-    Refused(FoldRefusal),
-}
-
-// How many clock entries an answer sets.
-pub fn used_of(answer: Folding) -> usize
-    ensures { λ r. ⌜ r ≡ usedIn answer ⌝ }
-{
-    match answer {
-        Folding::Done(numbers) => numbers.used as usize,
-        Folding::Refused(_) => 0,
-    }
-}
 
 // The fold, for a clock list of this many entries. The answer's first entries stay packed in the work memory, which is not cleared.
 pub fn fold_core(

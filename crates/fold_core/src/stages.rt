@@ -9,9 +9,9 @@ ghost use Rattle.blockfile.specs.Ready.{Ready};
 ghost use Rattle.unrolling.specs.UnrollMap.{Room};
 ghost use Rattle.fold_core.specs.FoldParts.{FoldReady, FoldMade};
 ghost use Rattle.fold_core.specs.FoldStages.{FoldWritten, NumbersFit, numbersFrom};
-use crate::FoldNumbers;
-use crate::FoldRefusal;
-use crate::Folding;
+use fold_answers::FoldNumbers;
+use fold_answers::Folding;
+use fold_refusals::FoldRefusal;
 use lasso_finder::Analysis;
 use lasso_finder::Clocks;
 

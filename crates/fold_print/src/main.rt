@@ -1,9 +1,9 @@
 // The printing program: one netlist file on standard input is folded with wish 0; the answers, the clock entries and the result's rows are printed, or the refusal.
 ghost use mathlib.Core.Path.{_≡_};
 ghost use lib.ListN.{length};
-use fold_core::FoldNumbers;
-use fold_core::FoldRefusal;
-use fold_core::Folding;
+use fold_answers::FoldNumbers;
+use fold_answers::Folding;
+use fold_refusals::FoldRefusal;
 use listing::folds::CLOCK_ENTRIES;
 use listing::folds::work_room;
 use text::bytes::first;
@@ -33,8 +33,8 @@ fn put_fold(buffer: &mut [u8], numbers: FoldNumbers, result: &[u8], work: &[u8])
 
 // The line of a refusal.
 fn put_refused(buffer: &mut [u8], refusal: FoldRefusal) -> Out {
-    let number = fold_core::number_of(refusal);
-    let place = fold_core::place_of(refusal);
+    let number = fold_refusals::number_of(refusal);
+    let place = fold_refusals::place_of(refusal);
     listing::refusals::put_refusal(buffer, to(OUTPUT), number, place)
 }
 

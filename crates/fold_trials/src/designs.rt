@@ -1,6 +1,6 @@
 // The designs that are tried. Each is put in a file of zeros, and the answer is the file's length.
-use reference::rows::Row;
-use reference::rows::put_row;
+use reference_rows::rows::Row;
+use reference_rows::rows::put_row;
 
 pub const DESIGNS: usize = 14;
 
@@ -91,7 +91,7 @@ fn put_rows(file: &mut [u8], table: &[u32]) -> usize {
     'rows: for row in 0..rows {
         put_row(file, row, row_of(table[row]));
     }
-    reference::writer::close(file, rows)
+    reference_writing::writer::close(file, rows)
 }
 
 // Bit `bit` of a counter, whose rows begin at 1: its register, its XOR with the carry, and the carry to the next bit.
@@ -112,7 +112,7 @@ fn put_counter(file: &mut [u8], bits: usize) -> usize {
     let output = 3 * (bits % 16) + 1;
     let last = std::num::wrapping_sub_u16((2 * output) as u16, 6);
     put_row(file, output, cells(6, 0, last, 0, 0));
-    reference::writer::close(file, output + 1)
+    reference_writing::writer::close(file, output + 1)
 }
 
 // As many toggles as Fold takes, every other one with reset 1.
@@ -124,7 +124,7 @@ fn put_toggles(file: &mut [u8]) -> usize {
         put_row(file, at, cells(2, reset, own + 1, own, 0));
     }
     put_row(file, 257, cells(6, 0, 2, 0, 0));
-    reference::writer::close(file, 258)
+    reference_writing::writer::close(file, 258)
 }
 
 // A chain of so many rows: an input, ANDs of it with the inverse of the row before, and the last of them as output.
@@ -138,7 +138,7 @@ fn put_chain(file: &mut [u8], rows: usize) -> usize {
     }
     let shown = std::num::wrapping_sub_u16((2 * output) as u16, 2);
     put_row(file, output, cells(6, 0, shown, 0, 0));
-    reference::writer::close(file, rows)
+    reference_writing::writer::close(file, rows)
 }
 
 // Behind the others chains of as many rows as Fold takes, and of more, at last of as many as a file may have.

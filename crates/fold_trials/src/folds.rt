@@ -1,11 +1,13 @@
 // A fold by the public operation and by the reference: answers, every byte of result and work, every entry of the list.
+ghost use mathlib.Core.Path.{_≡_};
+ghost use lib.ListN.{length};
 ghost use Prim.Native.Nat.{_<_};
 use crate::listed::LIST;
 use crate::listed::fillers;
 use crate::listed::fold_listed;
 use crate::listed::put_clocks;
-use reference::Folded;
-use reference::Lent;
+use reference_fold::Folded;
+use reference_fold::Lent;
 use text::both;
 use text::bytes::first;
 use text::bytes::least;
@@ -113,6 +115,19 @@ fn hold_all(tally: &mut [usize], answer: bool, result: bool, list: bool) {
     hold(tally, list, LISTS);
 }
 
+// The most that is lent of result and work, filled.
+fn result_room() -> [u8; 65600]
+    ensures { λ r. ⌜ 65600 ≡ length r ⌝ }
+{
+    [FILL; RESULT_ROOM]
+}
+
+fn work_room() -> [u8; 49200]
+    ensures { λ r. ⌜ 49200 ≡ length r ⌝ }
+{
+    [FILL; WORK_ROOM]
+}
+
 // What it left is held against what the reference makes of memories that are filled alike.
 fn compare(
     file: &[u8],
@@ -123,13 +138,13 @@ fn compare(
     list: &[u32],
     tally: &mut [usize],
 ) {
-    let mut results = [FILL; RESULT_ROOM];
+    let mut results = result_room();
     let mut lists = [0u32; NUMBERS];
     let right_result: &mut [u8] = &mut results;
     let right_list: &mut [u32] = &mut lists;
     put_clocks(right_list, fillers());
     let set = different(list, right_list, 4);
-    let right = reference::fold(file, wish, lent, right_result, right_list);
+    let right = reference_fold::fold(file, wish, lent, right_result, right_list);
     let size = lent.result;
     let same_result = same(first(result, size), first(right_result, size));
     let same_list = different(list, right_list, 1) == 0;
@@ -139,8 +154,8 @@ fn compare(
 }
 
 pub fn try_fold(file: &[u8], wish: u32, lent: Lent, tally: &mut [usize]) {
-    let mut results = [FILL; RESULT_ROOM];
-    let mut works = [FILL; WORK_ROOM];
+    let mut results = result_room();
+    let mut works = work_room();
     let mut lists = [0u32; NUMBERS];
     let result: &mut [u8] = &mut results;
     let work: &mut [u8] = &mut works;

@@ -1,8 +1,8 @@
 // The public Fold with a clock list. One function lends the list; the others have it by value, or as numbers, four for each entry.
 ghost use Prim.Native.Nat.{_≤_};
 use clock_list::Clock;
-use fold_core::Folding;
-use reference::Folded;
+use fold_answers::Folding;
+use reference_fold::Folded;
 
 // Entries of the whole list, some more than Fold asks for.
 pub const LIST: usize = 260;
@@ -54,8 +54,8 @@ fn told(answer: Folding, clocks: [Clock; LIST], numbers: &mut [u32]) -> Folded {
     put_clocks(numbers, clocks);
     match answer {
         Folding::Refused(refusal) => Folded {
-            number: fold_core::number_of(refusal),
-            place: fold_core::place_of(refusal),
+            number: fold_refusals::number_of(refusal),
+            place: fold_refusals::place_of(refusal),
             stem: 0,
             cycle: 0,
             phases: 0,

@@ -1,11 +1,14 @@
 // The public Fold tried. Result, work and clock list are filled before; the answer and what is left of the three are held against the
 // reference, a folder written separately, and against the fillers.
+ghost use mathlib.Core.Path.{_≡_};
+ghost use lib.ListN.{length};
+
 mod designs;
 mod folds;
 mod listed;
 
 use folds::try_fold;
-use reference::Lent;
+use reference_fold::Lent;
 use text::bytes::first;
 
 fn lent(result: usize, work: usize, clocks: usize) -> Lent {
@@ -32,9 +35,16 @@ fn try_short(file: &[u8], tally: &mut [usize]) {
     try_fold(file, 0, lent(65536, 49152, 255), tally);
 }
 
+// Room for the longest design.
+fn design_room() -> [u8; 262144]
+    ensures { λ r. ⌜ 262144 ≡ length r ⌝ }
+{
+    [0; 262144]
+}
+
 // At last with a byte of the last check changed.
 fn try_design(design: usize, tally: &mut [usize]) {
-    let mut room = [0u8; 262144];
+    let mut room = design_room();
     let file: &mut [u8] = &mut room;
     let size = designs::put_design(file, design);
     try_wishes(first(file, size), tally);
@@ -51,8 +61,14 @@ fn try_designs(tally: &mut [usize]) {
 }
 
 // A block more than a file may have.
+fn longer_room() -> [u8; 262656]
+    ensures { λ r. ⌜ 262656 ≡ length r ⌝ }
+{
+    [0; 262656]
+}
+
 fn try_longer(tally: &mut [usize]) {
-    let room = [0u8; 262656];
+    let room = longer_room();
     try_fold(&room, 0, lent(65536, 49152, 256), tally);
 }
 

@@ -7,15 +7,12 @@ use mathlib.Core.List.{List}
 use mathlib.Core.Option.{some, none}
 use native.Mathlib.Omega.{arith}
 use lib.ListN.{length, drop, replicate}
-use lib.Seq.{take-at}
 use lib.Dec.{leb}
 use borrow.Author.Tests.{leb-true, leb-false, le-leb, lt-leb, not-true, not-false}
 use Rattle.netlist.specs.Limits.{mostRows, rowWorkBytes, importResultBytes, importWorkBytes}
-use Rattle.netlist.specs.FileFormat.{blocksFor, fileOf, fileIn, fileLeft}
-use Rattle.netlist.proofs.FileLaws.{file-length}
+use Rattle.netlist.specs.FileFormat.{blocksFor, fileIn}
 use Rattle.netlist.proofs.WorkLaws.{work-most}
-use Rattle.questions.specs.Questions.{Refusal, noRefusal, unlessRefused}
-use Rattle.questions.proofs.QuestionLaws.{same-number}
+use Rattle.questions.specs.Questions.{Refusal, unlessRefused}
 use Rattle.ordering.specs.GateOrder.{sortedNetlist}
 use Rattle.ordering.specs.SortQuestions.{loopRefusal}
 use Rattle.ordering.proofs.LoopLaws.{loop-last}
@@ -23,11 +20,10 @@ use Rattle.aiger.specs.AigerText.{lineCount, isDistinct, isDefined, aigerRight}
 use Rattle.aiger.specs.AigerReading.{header, readLines, readAiger}
 use Rattle.aiger.specs.AigerRows.{aigerRows, textRows}
 use Rattle.aiger.specs.ImportQuestions.{importMemoryRight, isText, importRefusal}
-use Rattle.aiger.specs.ImportGuarantee.{ImportGuarantee}
 use Rattle.aiger.proofs.TextLaws.{reads-writing}
 use Rattle.aiger.proofs.NodeLaws.{row-places}
 use Rattle.aiger.proofs.ImportRefusalMeaning.{importMemoryRight-iff, read-is-text}
-use Rattle.aiger.proofs.ImportPromise.{rows-of-text, import-guarantee}
+use Rattle.aiger.proofs.ImportPromise.{rows-of-text}
 use Rattle.gate_rows.specs.Sources.{sourceRows, Source}
 use Rattle.gate_rows.specs.declared.Layout.{Layout}
 use Rattle.gate_rows.specs.declared.Layout.the-variants as layout
@@ -39,11 +35,13 @@ use Rattle.aiger_lines.specs.declared.Headed.the-variants as headings
 use Rattle.aiger_lines.proofs.ReadingLaws.{after-none}
 use Rattle.aiger_lines.proofs.LineLaws.{none-stands, counted-lines, lines-text}
 use Rattle.aiger_names.specs.Names.{nameBytes, NamesRoom, PairsStand}
-use Rattle.import.specs.ImportAnswers.{importingRefusal, rowsIn}
-use Rattle.import.specs.ImportOutcome.{LeftImported, Imported, pairsIn, textRefusal, TextImported}
-use Rattle.import.specs.declared.Importing.{Importing}
-use Rattle.import.specs.declared.Importing.the-variants.{Refused}
-use Rattle.import.specs.declared.ImportRefusal.the-variants.{Memory, Text, Rows}
+use Rattle.import_answers.specs.ImportAnswers.{importingRefusal, rowsIn}
+use Rattle.import_answers.specs.ImportOutcome.{Imported}
+use Rattle.import_answers.specs.declared.Importing.{Importing}
+use Rattle.import_answers.specs.declared.Importing.the-variants.{Refused}
+use Rattle.import_answers.specs.declared.ImportRefusal.the-variants.{Memory, Text, Rows}
+use Rattle.import_answers.proofs.ImportedLaws.{import-refused, import-answered}
+use Rattle.import.specs.ImportParts.{pairsIn, textRefusal, TextImported}
 use Rattle.import.proofs.PairRowLaws.{source-are, text-source}
 
 -- The result has room for the file of rows that fit one.
@@ -189,41 +187,14 @@ module _ (result work : List ℕ) (right : Bool) (e : right ≡ leb importResult
 module _ (text result : List ℕ) (work : List ℕ) where
   pub memory-refused : (right : Bool) → right ≡ leb importResultBytes (length result) && leb importWorkBytes (length work) → right ≡ false → (work′ : List ℕ) → work′ ≡ replicate (length work) 0 → Imported text result result work work′ (Refused Memory)
   unfolding importRefusal
-  memory-refused right e o work′ clear =
-      let no : importMemoryRight (length result) (length work) ≡ false = sym e ∙ o in
-      record {
-        refusal = rw no;
-        rows = refl;
-        written = refl;
-        cleared = clear;
-        guarantee = λ z. absurd (let y = same-number z in omega (arith, y));
-        left = λ z. absurd (let y = same-number z in omega (arith, y));
-      }
+  memory-refused right e o work′ clear = let no : importMemoryRight (length result) (length work) ≡ false = sym e ∙ o in import-refused text result work work′ clear Memory (rw no)
 
   module _ (right : Bool) (e : right ≡ leb importResultBytes (length result) && leb importWorkBytes (length work)) (o : right ≡ true) (result′ : List ℕ) (answer : Importing) (D : TextImported text result result′ answer) where
     refusal-is : importingRefusal answer ≡ importRefusal text (length result) (length work)
     unfolding importRefusal textRefusal
     refusal-is = D .refusal ∙ sym (let yes : importMemoryRight (length result) (length work) ≡ true = sym e ∙ o in rw yes refl)
 
-    guaranteed : importingRefusal answer ≡ noRefusal → ImportGuarantee text
-    guaranteed z = import-guarantee text (length result) (length work) (sym refusal-is ∙ z)
-
-    left-is : importingRefusal answer ≡ noRefusal → LeftImported text (fileLeft result′ (rowsIn answer))
-    left-is z =
-        let G = guaranteed z in
-        let new = sortedNetlist (textRows text) in
-        let k : textRefusal text ≡ noRefusal = sym (D .refusal) ∙ z in
-        let count : rowsIn answer ≡ length (textRows text) = D .rows ∙ rw k in
-        let written : result′ ≡ fileIn new result = D .written ∙ rw k in
-        let size : length (fileOf new) ≡ 512 * blocksFor (length (textRows text)) = file-length new ∙ ap (λ (m : ℕ). 512 * blocksFor m) (G .count) in
-        rw (written, count) (subst (LeftImported text) (sym (take-at (fileOf new) _ (512 * blocksFor (length (textRows text))) size)) (record { accepted = G .accepted; aiger = G .aiger; says = G .says; keeps = rw (G .read-back) (G .keeps) }))
-
     pub text-imported : (w work′ : List ℕ) → length w ≡ length work → work′ ≡ replicate (length w) 0 → Imported text result result′ work work′ answer
-    text-imported w work′ long clear = record {
-      refusal = refusal-is;
-      rows = D .rows ∙ ap (λ (q : Refusal). unlessRefused q (length (textRows text)) 0) (sym (D .refusal));
-      written = D .written ∙ ap (λ (q : Refusal). unlessRefused q (fileIn (sortedNetlist (textRows text)) result) result) (sym (D .refusal));
-      cleared = clear ∙ ap (λ (k : ℕ). replicate k 0) long;
-      guarantee = guaranteed;
-      left = left-is;
-    }
+    text-imported w work′ long clear =
+        import-answered text result work work′ (clear ∙ ap (λ (k : ℕ). replicate k 0) long) result′ answer refusal-is (D .rows ∙ ap (λ (q : Refusal). unlessRefused q (length (textRows text)) 0) (sym (D .refusal)))
+        (D .written ∙ ap (λ (q : Refusal). unlessRefused q (fileIn (sortedNetlist (textRows text)) result) result) (sym (D .refusal)))

@@ -23,7 +23,7 @@ use Rattle.gate_rows.specs.declared.Layout.the-variants as layout
 use Rattle.aiger_lines.specs.Lines.{headerIn}
 use Rattle.aiger_lines.specs.declared.Header.{Header}
 use Rattle.aiger_names.specs.Names.{nameBytes, PairsStand}
-use Rattle.import.specs.ImportOutcome.{pairsIn}
+use Rattle.import.specs.ImportParts.{pairsIn}
 
 module _ (a : Aiger) (w : List ℕ) (S : PairsStand a w) where
   abbrev c : Pairs

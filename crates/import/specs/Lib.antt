@@ -1,3 +1,2 @@
--- Import's answers and its outcome.
-pub mod ImportAnswers
-pub mod ImportOutcome
+-- What Import's parts hand on.
+pub mod ImportParts

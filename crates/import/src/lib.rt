@@ -10,54 +10,20 @@ ghost use Rattle.gate_rows.specs.Sources.{sourceRows, Source};
 ghost use Rattle.gate_rows.specs.declared.Layout.the-variants as layout;
 ghost use Rattle.row_sorter.specs.Placing.{RowsSorted};
 ghost use Rattle.aiger_names.specs.Names.{nameBytes};
-ghost use Rattle.import.specs.ImportAnswers.{importRefusalIn, importingRefusal, rowsIn};
-ghost use Rattle.import.specs.ImportOutcome.{pairsIn, TextImported, Imported};
+ghost use Rattle.import_answers.specs.ImportAnswers.{importingRefusal, rowsIn};
+ghost use Rattle.import_answers.specs.ImportOutcome.{Imported};
+ghost use Rattle.import.specs.ImportParts.{pairsIn, TextImported};
 use aiger_lines::Headed;
 use aiger_lines::Header;
 use aiger_names::NAME_BYTES;
 use blockfile::both;
 use gate_rows::Layout;
 use gate_rows::Pairs;
+use import_answers::ImportRefusal;
+use import_answers::Importing;
 use netlist::IMPORT_RESULT_BYTES;
 use netlist::IMPORT_WORK_BYTES;
 use netlist::MOST_FILE_ROWS;
-
-// What a text is not imported for; of a loop of gates the row before sorting.
-pub enum ImportRefusal {
-    Memory,
-    Text,
-    Rows,
-    Loop { row: u32 },
-}
-
-// The change requests' number of a refusal, and its place.
-pub fn number_of(refusal: ImportRefusal) -> u32
-    ensures { λ r. ⌜ r ≡ importRefusalIn refusal .number ⌝ }
-{
-    match refusal {
-        ImportRefusal::Memory => 23,
-        ImportRefusal::Text => 24,
-        ImportRefusal::Rows => 25,
-        ImportRefusal::Loop { row: _ } => 22,
-    }
-}
-
-pub fn place_of(refusal: ImportRefusal) -> u32
-    ensures { λ r. ⌜ r ≡ importRefusalIn refusal .place ⌝ }
-{
-    match refusal {
-        ImportRefusal::Memory => 0,
-        ImportRefusal::Text => 0,
-        ImportRefusal::Rows => 0,
-        ImportRefusal::Loop { row } => row,
-    }
-}
-
-// How many rows the file has, or why there is none.
-pub enum Importing {
-    Done { rows: u32 },
-    Refused(ImportRefusal),
-}
 
 // 22, and the sorted file if it is passed: the pairs of the rows stand in `pairs`.
 fn sort_pairs(

@@ -2,14 +2,14 @@
 // Variables count up. Latch k takes the node that is k before the last, and its reset is missing, 1 or the latch itself by turns. Output k shows the inverse of node 3 * k, or true if there is none. Gate k names the inverse of the gate behind it, or true if it is the last, and node k, or false if that is a gate. So the gates turn round.
 use crate::many::short;
 use crate::many::size_at;
-use crate::script::Lent;
-use crate::script::minus;
-use crate::script::plus;
-use crate::tell::Seen;
-use crate::tell::Tally;
 use crate::trying::cells;
-use reference::rows::Row;
-use reference::rows::put_row;
+use reference_rows::rows::Row;
+use reference_rows::rows::put_row;
+use scripted_texts::script::Lent;
+use scripted_texts::script::minus;
+use scripted_texts::script::plus;
+use scripted_texts::tell::Seen;
+use scripted_texts::tell::Tally;
 use text::bytes::first;
 use text::numbers::number_at;
 use text::out::Out;
@@ -207,7 +207,7 @@ fn put_rows(each: Each, rows: usize, file: &mut [u8]) {
     'rows: for number in 1..rows {
         put_row(file, place_of(each, number), row_of(each, number));
     }
-    reference::writer::close(file, rows);
+    reference_writing::writer::close(file, rows);
 }
 
 // The result that is expected: the file and then zeros to the end of what is lent, or as it was.
@@ -231,5 +231,5 @@ pub fn try_each(line: &[u8], text: &mut [u8], numbers: &[u32], lent: Lent, tally
     );
     put_expected(each, expected, lent, result);
     let tried = crate::trying::import_lent(first(text, size), lent, result);
-    crate::tell::judge(line, b"", tried.seen, expected, tried.left, tally)
+    scripted_texts::tell::judge(line, b"", tried.seen, expected, tried.left, tally)
 }

@@ -1,14 +1,12 @@
 // Import tried on the texts that standard input lists, and on longer ones that it describes: each group is printed with how many agree, and each that does not.
 mod each;
 mod many;
-mod script;
-mod tell;
 mod trying;
 
 ghost use mathlib.Core.Path.{_≡_};
 ghost use lib.ListN.{length};
-use script::Lent;
-use tell::Tally;
+use scripted_texts::script::Lent;
+use scripted_texts::tell::Tally;
 
 // Room for the numbers of a line.
 fn numbers_room() -> [u32; 64]
@@ -22,11 +20,11 @@ fn obey(line: &[u8], letter: u8, text: &mut [u8], lent: Lent, tally: Tally) -> T
     let mut room = numbers_room();
     let numbers: &mut [u32] = &mut room;
     match letter {
-        b'#' => tell::title(line, tally),
-        b'd' => tell::total(tally),
+        b'#' => scripted_texts::tell::title(line, tally),
+        b'd' => scripted_texts::tell::total(tally),
         b't' => {
-            let count = script::read_expected(line, numbers);
-            let size = script::put_text(line, text);
+            let count = scripted_texts::script::read_expected(line, numbers);
+            let size = scripted_texts::script::put_text(line, text);
             trying::try_text(
                 line,
                 text::bytes::first(text, size),
@@ -37,11 +35,11 @@ fn obey(line: &[u8], letter: u8, text: &mut [u8], lent: Lent, tally: Tally) -> T
             )
         }
         b'm' => {
-            script::read_numbers(line, 0, line.len(), numbers);
+            scripted_texts::script::read_numbers(line, 0, line.len(), numbers);
             many::try_many(line, text, numbers, lent, tally)
         }
         b'e' => {
-            script::read_numbers(line, 0, line.len(), numbers);
+            scripted_texts::script::read_numbers(line, 0, line.len(), numbers);
             each::try_each(line, text, numbers, lent, tally)
         }
         _ => tally,
@@ -54,8 +52,8 @@ fn lent_after(line: &[u8], letter: u8, lent: Lent) -> Lent {
     let numbers: &mut [u32] = &mut room;
     match letter {
         b'l' => {
-            script::read_numbers(line, 0, line.len(), numbers);
-            script::lent_of(numbers)
+            scripted_texts::script::read_numbers(line, 0, line.len(), numbers);
+            scripted_texts::script::lent_of(numbers)
         }
         _ => lent,
     }
@@ -63,15 +61,15 @@ fn lent_after(line: &[u8], letter: u8, lent: Lent) -> Lent {
 
 // No script has more lines than turns.
 fn obey_script(input: &[u8], text: &mut [u8]) {
-    let mut tally = tell::no_tally();
-    let mut lent = script::enough();
+    let mut tally = scripted_texts::tell::no_tally();
+    let mut lent = scripted_texts::script::enough();
     let mut start = 0;
     let turns: usize = 65536;
     'lines: for turn in 0..turns {
         if input.len() <= start {
             return;
         }
-        let line = script::line_at(input, start);
+        let line = scripted_texts::script::line_at(input, start);
         let letter = text::bytes::get(line, 0);
         lent = lent_after(line, letter, lent);
         tally = obey(line, letter, text, lent, tally);

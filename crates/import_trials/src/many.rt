@@ -1,9 +1,9 @@
 // Texts of many inputs, which a line describes: many INPUTS STEP LAST OUTPUT GATE CUT => NUMBER PLACE ROWS.
 // The inputs are STEP, which is 2 or 6, twice STEP and so on, but the last is LAST if that is not 0; GATE 1 adds a gate that names itself; CUT is how many bytes of the text's end are missing.
-use crate::script::Lent;
-use crate::tell::Seen;
-use crate::tell::Tally;
-use reference::rows::put_row;
+use reference_rows::rows::put_row;
+use scripted_texts::script::Lent;
+use scripted_texts::tell::Seen;
+use scripted_texts::tell::Tally;
 use text::bytes::first;
 use text::numbers::number_at;
 use text::out::Out;
@@ -108,7 +108,7 @@ fn put_file(many: Many, rows: usize, file: &mut [u8]) {
     let last = std::num::wrapping_sub_usize(rows, 1);
     put_rows(many, file);
     put_row(file, last, crate::trying::cells(6, shown_by(many), 0));
-    reference::writer::close(file, rows);
+    reference_writing::writer::close(file, rows);
 }
 
 // The result that is expected: the file and then zeros to the end of what is lent, or as it was.
@@ -132,5 +132,5 @@ pub fn try_many(line: &[u8], text: &mut [u8], numbers: &[u32], lent: Lent, tally
     );
     put_expected(many, expected, lent, result);
     let tried = crate::trying::import_lent(first(text, size), lent, result);
-    crate::tell::judge(line, b"", tried.seen, expected, tried.left, tally)
+    scripted_texts::tell::judge(line, b"", tried.seen, expected, tried.left, tally)
 }

@@ -1,12 +1,12 @@
 // A text imported by the product, and if it is given as it stands by the reference too; answer, result and work are compared with what is expected.
 ghost use mathlib.Core.Path.{_≡_};
 ghost use lib.ListN.{length};
-use crate::script::Lent;
-use crate::tell::Seen;
-use crate::tell::Tally;
-use import::Importing;
-use reference::rows::Row;
-use reference::rows::put_row;
+use import_answers::Importing;
+use reference_rows::rows::Row;
+use reference_rows::rows::put_row;
+use scripted_texts::script::Lent;
+use scripted_texts::tell::Seen;
+use scripted_texts::tell::Tally;
 use text::bytes::least;
 use text::bytes::put;
 use text::bytes::same;
@@ -25,8 +25,8 @@ pub fn of_import(answer: Importing) -> Seen {
     match answer {
         Importing::Done { rows } => Seen(0, 0, rows),
         Importing::Refused(refusal) => {
-            let number = import::number_of(refusal);
-            Seen(number, import::place_of(refusal), 0)
+            let number = import_answers::number_of(refusal);
+            Seen(number, import_answers::place_of(refusal), 0)
         }
     }
 }
@@ -36,6 +36,13 @@ pub fn result_room() -> [u8; 262656]
     ensures { λ r. ⌜ 262656 ≡ length r ⌝ }
 {
     [RESULT_FILL; RESULT_ROOM]
+}
+
+// Work before, longer than what is lent.
+fn work_room() -> [u8; 197120]
+    ensures { λ r. ⌜ 197120 ≡ length r ⌝ }
+{
+    [WORK_FILL; WORK_ROOM]
 }
 
 // ---- what is expected
@@ -97,12 +104,12 @@ fn put_expected(numbers: &[u32], expected: Seen, lent: Lent, result: &mut [u8]) 
     let rows = expected.2 as usize;
     zero(result, lent.result);
     put_listed(numbers, rows, result);
-    reference::writer::close(result, rows);
+    reference_writing::writer::close(result, rows);
 }
 
 // Whether work is zero as far as it was lent, and no further.
 fn work_right(work: &[u8], lent: usize) -> bool {
-    let mut room = [WORK_FILL; WORK_ROOM];
+    let mut room = work_room();
     let expected: &mut [u8] = &mut room;
     zero(expected, lent);
     same(work, expected)
@@ -118,12 +125,12 @@ pub struct Tried {
 
 pub fn import_lent(text: &[u8], lent: Lent, expected: &[u8]) -> Tried {
     let mut results = result_room();
-    let mut works = [WORK_FILL; WORK_ROOM];
+    let mut works = work_room();
     let result: &mut [u8] = &mut results;
     let work: &mut [u8] = &mut works;
     let result_end = least(lent.result, result.len());
     let work_end = least(lent.work, work.len());
-    let answer = phasefold::import(text, &mut result[0..result_end], &mut work[0..work_end]);
+    let answer = import::import(text, &mut result[0..result_end], &mut work[0..work_end]);
     let cleared = work_right(work, lent.work);
     let left = cleared && same(result, expected);
     Tried {
@@ -134,14 +141,14 @@ pub fn import_lent(text: &[u8], lent: Lent, expected: &[u8]) -> Tried {
 
 fn import_again(text: &[u8], lent: Lent, expected: &[u8]) -> Tried {
     let mut results = result_room();
-    let mut works = [WORK_FILL; WORK_ROOM];
+    let mut works = work_room();
     let mut tables = [0u32; 256];
     let mut lists = [0u32; 32];
     let result: &mut [u8] = &mut results;
     let work: &mut [u8] = &mut works;
     let result_end = least(lent.result, result.len());
     let work_end = least(lent.work, work.len());
-    let answer = reference::importing::import(
+    let answer = reference_import::importing::import(
         text,
         &mut tables,
         &mut lists,
@@ -171,7 +178,7 @@ pub fn try_text(
     put_expected(numbers, expected, lent, result);
     let one = import_lent(text, lent, result);
     let two = import_again(text, lent, result);
-    let after = crate::tell::judge(
+    let after = scripted_texts::tell::judge(
         line,
         b" by the product",
         one.seen,
@@ -179,7 +186,7 @@ pub fn try_text(
         one.left,
         tally,
     );
-    crate::tell::judge(
+    scripted_texts::tell::judge(
         line,
         b" by the reference",
         two.seen,

@@ -2,7 +2,7 @@
 ghost use mathlib.Core.Path.{_≡_};
 ghost use Prim.Native.Nat.{_+_, _≤_};
 ghost use lib.ListN.{length};
-use fold_core::FoldNumbers;
+use fold_answers::FoldNumbers;
 use fold_memory::ENTRIES;
 use text::out::Out;
 use text::out::put_filled;

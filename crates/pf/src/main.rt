@@ -1,15 +1,6 @@
 // The command pf: Check, Count, Show, Sort, Fold and Run of netlist files, their rows as text and back, AIGER text in, and clocks drawn.
 // The script that starts it opens descriptor 3, to which its outcome goes as a digit, and those of a result that is kept (`saving`).
-mod aiger_causes;
-mod answers;
 mod call;
-mod causes;
-mod folding;
-mod importing;
-mod loop_causes;
-mod make;
-mod run;
-mod sorting;
 
 use call::Command;
 use listing::rows::file_room;
@@ -32,15 +23,15 @@ fn answer(
     third: &[u8],
 ) -> Outcome {
     match command {
-        Command::Check => answers::check(path, file),
-        Command::Count => answers::count(path, file),
-        Command::Show => answers::show(path, file, second),
-        Command::Rows => answers::rows(path, file),
-        Command::Sort => sorting::sort(path, file, second),
-        Command::Fold => folding::fold(count, path, file, second, third),
-        Command::Clocks => folding::clocks(count, path, file, second),
-        Command::Run => run::run(path, file, second, third),
-        _ => call::wrong_call(command),
+        Command::Check => pf_files::answers::check(path, file),
+        Command::Count => pf_files::answers::count(path, file),
+        Command::Show => pf_files::answers::show(path, file, second),
+        Command::Rows => pf_files::answers::rows(path, file),
+        Command::Sort => pf_files::sorting::sort(path, file, second),
+        Command::Fold => pf_runs::folding::fold(count, path, file, second, third),
+        Command::Clocks => pf_runs::folding::clocks(count, path, file, second),
+        Command::Run => pf_runs::run::run(path, file, second, third),
+        _ => fail(b"no such command\n"),
     }
 }
 
@@ -72,22 +63,6 @@ fn perform_on_file(
     read_and_answer(command, count, path, second, third, &mut room)
 }
 
-// A command that has as many words as it takes.
-fn perform_counted(
-    command: Command,
-    count: usize,
-    path: &[u8],
-    second: &[u8],
-    third: &[u8],
-) -> Outcome {
-    match command {
-        Command::Make => make::make(path, second),
-        Command::Import => importing::import(path, second),
-        Command::Help => call::help(count, path),
-        _ => perform_on_file(command, count, path, second, third),
-    }
-}
-
 // Whether both files of a run are to be read from standard input.
 fn reads_twice(command: Command, path: &[u8], third: &[u8]) -> bool {
     match command {
@@ -96,18 +71,16 @@ fn reads_twice(command: Command, path: &[u8], third: &[u8]) -> bool {
     }
 }
 
-// A command, if its words are as many as it takes, or ask for help.
+// A command, unless it would read standard input twice.
 fn perform(command: Command, count: usize, path: &[u8], second: &[u8], third: &[u8]) -> Outcome {
-    if both(count == 1, call::is_help(path)) {
-        return call::help_on(command);
-    }
-    if !call::count_right(command, count) {
-        return call::wrong_call(command);
-    }
     if reads_twice(command, path, third) {
         return fail(b"FILE and VALUES cannot both be standard input\n");
     }
-    perform_counted(command, count, path, second, third)
+    match command {
+        Command::Make => pf_files::make::make(path, second),
+        Command::Import => pf_files::importing::import(path, second),
+        _ => perform_on_file(command, count, path, second, third),
+    }
 }
 
 // Whether word `index` of the call is too long to be taken.
@@ -151,18 +124,9 @@ fn perform_words(count: usize) -> Outcome {
     )
 }
 
-// The call's words: help if there are none.
-fn perform_call() -> Outcome {
-    let words = os::arg_count();
-    if words < 2 {
-        call::help(0, b"")
-    } else {
-        perform_words(words - 2)
-    }
-}
-
 // The outcome of the call is told.
 fn main() {
-    let outcome = perform_call();
+    let words = os::arg_count();
+    let outcome = perform_words(std::num::wrapping_sub_usize(words, 2));
     pf_words::outcome::tell_status(outcome);
 }

@@ -1,6 +1,4 @@
 // A result kept in a file. The script opens two descriptors for it: what stands at the result's name, or nothing if there is no file yet; and the file that then takes its place.
-ghost use mathlib.Core.Path.{_≡_};
-ghost use lib.ListN.{length};
 use crate::block_causes::is_first_block;
 use crate::outcome::Outcome;
 use crate::outcome::fail_at;
@@ -14,13 +12,6 @@ use text::files::load_from;
 const OLD: i32 = 5;
 
 const NEW: i32 = 6;
-
-// Room for the longest file.
-pub fn result_room() -> [u8; 262144]
-    ensures { λ r. ⌜ 262144 ≡ length r ⌝ }
-{
-    [0; 262144]
-}
 
 // Whether all bytes are on their device; what is no plain file has none.
 fn synced() -> bool {

@@ -18,22 +18,22 @@ use Rattle.accept.specs.declared.FileRefusal.{FileRefusal}
 use Rattle.accept.specs.declared.Acceptance.{Acceptance}
 use Rattle.accept.specs.declared.Acceptance.the-variants.{Accepted, Refused}
 use Rattle.accept.proofs.RefusalLaws.{number-positive}
-use Rattle.run.specs.RunAnswers.{runRefusalIn, runAnswered}
-use Rattle.run.specs.Ran.{Ran}
-use Rattle.run.specs.declared.RunAnswer.{RunAnswer}
-use Rattle.run.specs.declared.RunAnswer.the-variants as run
-use Rattle.run.specs.declared.RunRefusal.{RunRefusal}
+use Rattle.run_answers.specs.RunAnswers.{runRefusalIn, runAnswered}
+use Rattle.run_answers.specs.Ran.{Ran}
+use Rattle.run_answers.specs.declared.RunAnswer.{RunAnswer}
+use Rattle.run_answers.specs.declared.RunAnswer.the-variants as run
+use Rattle.run_answers.specs.declared.RunRefusal.{RunRefusal}
 use Rattle.count.specs.CountOutcome.{countRefusal, countsAnswered, Counted}
-use Rattle.sort.specs.SortAnswers.{sortRefusalIn, sortingRefusal, rowsIn}
-use Rattle.sort.specs.SortOutcome.{Sorted}
-use Rattle.sort.specs.declared.Sorting.{Sorting}
-use Rattle.sort.specs.declared.Sorting.the-variants as sort
-use Rattle.sort.specs.declared.SortRefusal.{SortRefusal}
-use Rattle.import.specs.ImportAnswers as imports
-use Rattle.import.specs.ImportOutcome.{Imported}
-use Rattle.import.specs.declared.Importing.{Importing}
-use Rattle.import.specs.declared.Importing.the-variants as import
-use Rattle.import.specs.declared.ImportRefusal.{ImportRefusal}
+use Rattle.sort_answers.specs.SortAnswers.{sortRefusalIn, sortingRefusal, rowsIn}
+use Rattle.sort_answers.specs.SortOutcome.{Sorted}
+use Rattle.sort_answers.specs.declared.Sorting.{Sorting}
+use Rattle.sort_answers.specs.declared.Sorting.the-variants as sort
+use Rattle.sort_answers.specs.declared.SortRefusal.{SortRefusal}
+use Rattle.import_answers.specs.ImportAnswers as imports
+use Rattle.import_answers.specs.ImportOutcome.{Imported}
+use Rattle.import_answers.specs.declared.Importing.{Importing}
+use Rattle.import_answers.specs.declared.Importing.the-variants as import
+use Rattle.import_answers.specs.declared.ImportRefusal.{ImportRefusal}
 use Rattle.c_answers.specs.AnswerNumbers.{refusalNumbers, acceptedCounts, refusedCounts, writtenNumbers}
 use Rattle.phasefold.specs.ForeignAnswers.{countNumbers, RanFlat, SortedFlat, ImportedFlat}
 use Rattle.count.specs.declared.CountAnswer.{CountAnswer}

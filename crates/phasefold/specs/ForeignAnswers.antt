@@ -10,18 +10,18 @@ use lib.ListN.{take, drop}
 use Rattle.netlist.specs.FileFormat.{netlistOf}
 use Rattle.questions.specs.Questions.{unlessRefused, fileRefusal, countsOf}
 use Rattle.show.specs.ShowOutcome.{ShownBytes, partOffset}
-use Rattle.run.specs.Ran.{Ran}
-use Rattle.run.specs.RunAnswers.{runAnswered}
-use Rattle.run.specs.declared.RunAnswer.{RunAnswer}
+use Rattle.run_answers.specs.Ran.{Ran}
+use Rattle.run_answers.specs.RunAnswers.{runAnswered}
+use Rattle.run_answers.specs.declared.RunAnswer.{RunAnswer}
 use Rattle.clock_list.specs.declared.Clock.{Clock}
-use Rattle.fold_core.specs.declared.Folding.{Folding}
-use Rattle.fold.specs.FoldedOutcome.{Folded}
-use Rattle.sort.specs.SortAnswers.{sortingRefusal, rowsIn}
-use Rattle.sort.specs.SortOutcome.{Sorted}
-use Rattle.sort.specs.declared.Sorting.{Sorting}
-use Rattle.import.specs.ImportAnswers as imports
-use Rattle.import.specs.ImportOutcome.{Imported}
-use Rattle.import.specs.declared.Importing.{Importing}
+use Rattle.fold_answers.specs.declared.Folding.{Folding}
+use Rattle.fold_answers.specs.FoldedOutcome.{Folded}
+use Rattle.sort_answers.specs.SortAnswers.{sortingRefusal, rowsIn}
+use Rattle.sort_answers.specs.SortOutcome.{Sorted}
+use Rattle.sort_answers.specs.declared.Sorting.{Sorting}
+use Rattle.import_answers.specs.ImportAnswers as imports
+use Rattle.import_answers.specs.ImportOutcome.{Imported}
+use Rattle.import_answers.specs.declared.Importing.{Importing}
 use Rattle.c_answers.specs.AnswerNumbers.{refusalNumbers, acceptedCounts, refusedCounts, foldedNumbers, writtenNumbers}
 use Rattle.c_answers.specs.declared.PfRefusal.{PfRefusal}
 use Rattle.c_answers.specs.declared.PfCounts.{PfCounts}

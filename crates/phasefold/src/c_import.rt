@@ -1,7 +1,7 @@
 // Import for callers in C.
 ghost use Rattle.phasefold.specs.ForeignAnswers.{ImportedFlat};
 use c_answers::PfWritten;
-use import::Importing;
+use import_answers::Importing;
 
 #[no_mangle]
 pub extern "C" fn pf_import(text: &[u8], result: &mut [u8], work: &mut [u8]) -> PfWritten

@@ -1,7 +1,7 @@
 // Run for callers in C.
 ghost use Rattle.phasefold.specs.ForeignAnswers.{RanFlat};
 use c_answers::PfRefusal;
-use run::RunAnswer;
+use run_answers::RunAnswer;
 
 #[no_mangle]
 pub extern "C" fn pf_run(

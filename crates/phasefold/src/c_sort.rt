@@ -1,7 +1,7 @@
 // Sort for callers in C.
 ghost use Rattle.phasefold.specs.ForeignAnswers.{SortedFlat};
 use c_answers::PfWritten;
-use sort::Sorting;
+use sort_answers::Sorting;
 
 #[no_mangle]
 pub extern "C" fn pf_sort(file: &[u8], result: &mut [u8], work: &mut [u8]) -> PfWritten

@@ -25,10 +25,10 @@ use Rattle.accept.specs.declared.Acceptance.{Acceptance}
 use Rattle.accept.specs.declared.Acceptance.the-variants.{Accepted, Refused}
 use Rattle.accept.proofs.RefusalLaws.{file-passes, file-stops, accepted-counts}
 use Rattle.simulate.proofs.PlaceLaws.{count-parts}
-use Rattle.run.specs.RunAnswers.{runRefusalIn}
+use Rattle.run_answers.specs.RunAnswers.{runRefusalIn}
+use Rattle.run_answers.specs.declared.RunRefusal.{RunRefusal}
+use Rattle.run_answers.specs.declared.RunRefusal.the-variants.{File, Steps, Lists, Value, Memory}
 use Rattle.run.specs.RunPlans.{stepsRefusal, StepsPlanned, RunPlanned}
-use Rattle.run.specs.declared.RunRefusal.{RunRefusal}
-use Rattle.run.specs.declared.RunRefusal.the-variants.{File, Steps, Lists, Value, Memory}
 use Rattle.run.specs.declared.RunPlan.{RunPlan}
 use Rattle.run.specs.declared.RunPlan.the-variants.{Go, Stop}
 

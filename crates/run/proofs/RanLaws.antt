@@ -1,11 +1,10 @@
--- Run's outcome by its plan: the steps are given what they ask, and a refusal changes nothing but work.
+-- Run's outcome by its plan, and that the steps are given what they ask.
 -- Assumes nothing.
-use Prim.Native.Nat.{ℕ, _<_}
-use mathlib.Core.Path.{_≡_, refl, sym, ap, _∙_}
+use Prim.Native.Nat.{ℕ}
+use mathlib.Core.Path.{_≡_, sym, ap, _∙_}
 use mathlib.Core.List.{List}
 use native.Mathlib.Omega.{arith}
 use lib.ListN.{length, replicate, length-replicate}
-use borrow.Author.Tests.{ne-eqb}
 use Rattle.netlist.specs.FileFormat.{netlistOf}
 use Rattle.netlist.proofs.WorkLaws.{work-holds}
 use Rattle.questions.specs.Questions.{namesEarlier, noRefusal, runRefusal}
@@ -13,15 +12,13 @@ use Rattle.questions.proofs.QuestionLaws.{number-none}
 use Rattle.questions.proofs.PlainWords.{runMemoryRight-iff}
 use Rattle.questions.proofs.AcceptedFiles.{RunRight, run-accepted}
 use Rattle.blockfile.proofs.ReadyLaws.{has-rows}
-use Rattle.accept.proofs.RefusalLaws.{number-positive}
 use Rattle.simulate.specs.Steps.{ValuesRoom, Given}
 use Rattle.simulate.proofs.GivenLaws.{binary-zeros, given-of}
-use Rattle.run.specs.RunAnswers.{runRefusalIn}
+use Rattle.run_answers.specs.Ran.{ranBytes, Ran}
+use Rattle.run_answers.specs.declared.RunRefusal.{RunRefusal}
+use Rattle.run_answers.specs.declared.RunAnswer.the-variants.{Done, Refused}
+use Rattle.run_answers.proofs.RanLaws.{ran-refused, ran-done}
 use Rattle.run.specs.RunPlans.{planRefusal, RunPlanned}
-use Rattle.run.specs.Ran.{ranBytes, Ran}
-use Rattle.run.specs.declared.RunRefusal.{RunRefusal}
-use Rattle.run.specs.declared.RunRefusal.the-variants.{File, Steps, Lists, Value, Memory}
-use Rattle.run.specs.declared.RunAnswer.the-variants.{Done, Refused}
 use Rattle.run.specs.declared.RunPlan.{RunPlan}
 use Rattle.run.specs.declared.RunPlan.the-variants.{Go, Stop}
 
@@ -29,22 +26,9 @@ use Rattle.run.specs.declared.RunPlan.the-variants.{Go, Stop}
 pub cleared-again : (v w w′ : List ℕ) → length w ≡ length v → w′ ≡ replicate (length w) 0 → w′ ≡ replicate (length v) 0
 cleared-again v w w′ l e = e ∙ ap (λ (n : ℕ). replicate n 0) l
 
--- A refusal has a number.
-pub run-positive : (r : RunRefusal) → 0 < runRefusalIn r .number
-run-positive (File r) = number-positive r
-run-positive Steps = omega arith
-run-positive Lists = omega arith
-run-positive Value = omega arith
-run-positive Memory = omega arith
-
 module _ (file : List ℕ) (T : ℕ) (choices inputs result work : List ℕ) (plan : RunPlan) (planned : RunPlanned file T choices inputs (length result) (length work) plan) where
-  pub ran-refused : (r : RunRefusal) (work′ : List ℕ) → plan ≡ Stop r → work′ ≡ replicate (length work) 0 → Ran file T choices inputs result result work work′ (Refused r)
-  ran-refused r work′ e h =
-      record {
-        refusal = sym (ap planRefusal e) ∙ planned .refusal;
-        written = rw (ne-eqb (runRefusalIn r .number) 0 (λ z. omega (arith, run-positive r, z))) refl;
-        cleared = h;
-      }
+  pub stopped-by : (r : RunRefusal) (work′ : List ℕ) → plan ≡ Stop r → work′ ≡ replicate (length work) 0 → Ran file T choices inputs result result work work′ (Refused r)
+  stopped-by r work′ e h = ran-refused file T choices inputs result work work′ h r (sym (ap planRefusal e) ∙ planned .refusal)
 
   module _ (rows nodes ins : ℕ) (e : plan ≡ Go rows nodes ins) where
     none : noRefusal ≡ runRefusal file T choices inputs (length result) (length work)
@@ -68,5 +52,5 @@ module _ (file : List ℕ) (T : ℕ) (choices inputs result work : List ℕ) (pl
         let l : length work′ ≡ length work = rw q (length-replicate (length work) 0) in
         record { fits = omega arith; binary = rw q (binary-zeros (length work)) }
 
-    pub ran-done : (result′ work₁ work′ : List ℕ) → result′ ≡ ranBytes (netlistOf file) T choices inputs result → length work₁ ≡ length work → work′ ≡ replicate (length work₁) 0 → Ran file T choices inputs result result′ work work′ Done
-    ran-done result′ work₁ work′ w l c = record { refusal = none; written = w; cleared = c ∙ ap (λ (n : ℕ). replicate n 0) l }
+    pub done-by : (result′ work₁ work′ : List ℕ) → result′ ≡ ranBytes (netlistOf file) T choices inputs result → length work₁ ≡ length work → work′ ≡ replicate (length work₁) 0 → Ran file T choices inputs result result′ work work′ Done
+    done-by result′ work₁ work′ w l c = ran-done file T choices inputs result work work′ (cleared-again work work₁ work′ l c) result′ none w

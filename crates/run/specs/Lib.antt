@@ -1,4 +1,2 @@
--- Run's answers, what it plans, and its outcome.
-pub mod RunAnswers
+-- What Run plans.
 pub mod RunPlans
-pub mod Ran

@@ -9,7 +9,7 @@ use Rattle.memory.specs.Lists.{countIf}
 use Rattle.netlist.specs.Rows.{Row, isInput, isOutput}
 use Rattle.netlist.specs.FileFormat.{netlistOf}
 use Rattle.questions.specs.Questions.{Refusal, noRefusal, firstRefusal, stepQuestions, runRefusal, Counts, countsOf}
-use Rattle.run.specs.RunAnswers.{runRefusalIn}
+use Rattle.run_answers.specs.RunAnswers.{runRefusalIn}
 use Rattle.run.specs.declared.RunPlan.{RunPlan}
 use Rattle.run.specs.declared.RunPlan.the-variants.{Go, Stop}
 

@@ -9,54 +9,15 @@ ghost use Rattle.netlist.specs.FileFormat.{netlistOf};
 ghost use Rattle.questions.specs.Questions.{countsOf, valueListsRight, allBinary, runMemoryRight};
 ghost use Rattle.blockfile.specs.CountCode.{countsIn, EachAtMost};
 ghost use Rattle.simulate.specs.Steps.{ValuesRoom, Given};
-ghost use Rattle.run.specs.RunAnswers.{runRefusalIn};
+ghost use Rattle.run_answers.specs.Ran.{ranBytes, Ran};
 ghost use Rattle.run.specs.RunPlans.{StepsPlanned, RunPlanned};
-ghost use Rattle.run.specs.Ran.{ranBytes, Ran};
 use accept::Acceptance;
-use accept::FileRefusal;
 use blockfile::both;
 use blockfile::count::Counts;
 use netlist::MOST_STEPS;
+use run_answers::RunAnswer;
+use run_answers::RunRefusal;
 use simulate::Sizes;
-
-// What a run is refused for; of a file, with its place.
-pub enum RunRefusal {
-    File(FileRefusal),
-    Steps,
-    Lists,
-    Value,
-    Memory,
-}
-
-// The paper's number of a refusal, and its place.
-pub fn number_of(refusal: RunRefusal) -> u32
-    ensures { λ r. ⌜ r ≡ runRefusalIn refusal .number ⌝ }
-{
-    match refusal {
-        RunRefusal::File(file) => accept::number_of(file),
-        RunRefusal::Steps => 17,
-        RunRefusal::Lists => 18,
-        RunRefusal::Value => 19,
-        RunRefusal::Memory => 20,
-    }
-}
-
-pub fn place_of(refusal: RunRefusal) -> u32
-    ensures { λ r. ⌜ r ≡ runRefusalIn refusal .place ⌝ }
-{
-    match refusal {
-        RunRefusal::File(file) => accept::place_of(file),
-        RunRefusal::Steps => 0,
-        RunRefusal::Lists => 0,
-        RunRefusal::Value => 0,
-        RunRefusal::Memory => 0,
-    }
-}
-
-pub enum RunAnswer {
-    Done,
-    Refused(RunRefusal),
-}
 
 // The rows, the nodes and the inputs of a netlist that is to be run, or why it is not.
 enum RunPlan {

@@ -1,4 +1,2 @@
--- Sort's answers, its parts and its outcome.
-pub mod SortAnswers
+-- What Sort's parts hand on.
 pub mod SortParts
-pub mod SortOutcome

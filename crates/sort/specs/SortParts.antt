@@ -10,7 +10,7 @@ use Rattle.questions.specs.Questions.{Refusal, noRefusal, firstRefusal, questio
 use Rattle.ordering.specs.SortQuestions.{sortMemoryRight}
 use Rattle.gate_rows.specs.Sources.{Source}
 use Rattle.gate_rows.specs.declared.Layout.the-variants as layout
-use Rattle.sort.specs.SortAnswers.{sortRefusalIn}
+use Rattle.sort_answers.specs.SortAnswers.{sortRefusalIn}
 use Rattle.sort.specs.declared.SortPlan.{SortPlan}
 use Rattle.sort.specs.declared.SortPlan.the-variants.{Go, Stop}
 

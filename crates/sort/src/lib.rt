@@ -5,47 +5,14 @@ ghost use lib.ListN.{length};
 ghost use Rattle.netlist.specs.Limits.{rowWorkBytes};
 ghost use Rattle.netlist.specs.FileFormat.{netlistOf};
 ghost use Rattle.row_sorter.specs.Placing.{RowsSorted};
-ghost use Rattle.sort.specs.SortAnswers.{sortRefusalIn, sortingRefusal, rowsIn};
+ghost use Rattle.sort_answers.specs.SortAnswers.{sortingRefusal, rowsIn};
+ghost use Rattle.sort_answers.specs.SortOutcome.{Sorted};
 ghost use Rattle.sort.specs.SortParts.{Sortable, SortPlanned};
-ghost use Rattle.sort.specs.SortOutcome.{Sorted};
 use accept::Acceptance;
-use accept::FileRefusal;
 use blockfile::both;
 use gate_rows::Layout;
-
-// What a file is not sorted for; of a file, with its place.
-pub enum SortRefusal {
-    File(FileRefusal),
-    Memory,
-    Loop { row: u32 },
-}
-
-// The paper's number of a refusal, and its place.
-pub fn number_of(refusal: SortRefusal) -> u32
-    ensures { λ r. ⌜ r ≡ sortRefusalIn refusal .number ⌝ }
-{
-    match refusal {
-        SortRefusal::File(file) => accept::number_of(file),
-        SortRefusal::Memory => 23,
-        SortRefusal::Loop { row: _ } => 22,
-    }
-}
-
-pub fn place_of(refusal: SortRefusal) -> u32
-    ensures { λ r. ⌜ r ≡ sortRefusalIn refusal .place ⌝ }
-{
-    match refusal {
-        SortRefusal::File(file) => accept::place_of(file),
-        SortRefusal::Memory => 0,
-        SortRefusal::Loop { row } => row,
-    }
-}
-
-// How many rows the sorted file has, or why there is none.
-pub enum Sorting {
-    Done { rows: u32 },
-    Refused(SortRefusal),
-}
+use sort_answers::SortRefusal;
+use sort_answers::Sorting;
 
 // 22, and the sorted file if it is passed.
 fn sort_rows(file: &[u8], result: &mut [u8], work: &mut [u8], rows: usize) -> Sorting

@@ -161,21 +161,6 @@ pub fn pad(buffer: &mut [u8], out: Out, count: usize) -> Out {
     now
 }
 
-// A text, and blanks up to a width.
-fn put_padded(buffer: &mut [u8], out: Out, text: &[u8], width: usize) -> Out {
-    let begun = put(buffer, out, text);
-    let blanks = width - least(text.len(), width);
-    pad(buffer, begun, blanks)
-}
-
-// The same written at once; whether that went well.
-pub fn tell_padded(fd: i32, text: &[u8], width: usize) -> bool {
-    let mut room = io::buffer();
-    let out = put_padded(&mut room, to(fd), text, width);
-    let empty = flush(&room, out);
-    empty.right
-}
-
 // ---- words of a text
 
 // A byte that can be seen; ? for any other.

@@ -1,17 +1,17 @@
 // Import of texts by chance, by the product and by the reference: answers, every byte of result and work. What is imported is checked, sorted again, run beside the text's own equations, and folded if it is small.
-use crate::aigers::Plan;
-use crate::files::said;
-use crate::pieces::plus;
-use crate::rooms;
-use crate::sorts::lent_of;
-use crate::tally::add;
-use crate::tally::hold;
-use import::Importing;
-use reference::sorting::Sorted;
+use import_answers::Importing;
+use reference_import::sorting::Sorted;
 use text::both;
 use text::bytes::first;
 use text::bytes::least;
 use text::bytes::same;
+use trial_operations::files::said;
+use trial_operations::sorts::lent_of;
+use trial_pieces::pieces::plus;
+use trial_tally::rooms;
+use trial_tally::tally::add;
+use trial_tally::tally::hold;
+use trial_uses::Plan;
 
 const SMALL: usize = 4000;
 
@@ -39,10 +39,10 @@ fn of_import(answer: Importing) -> Sorted {
             rows: rows,
         },
         Importing::Refused(refusal) => {
-            let number = import::number_of(refusal);
+            let number = import_answers::number_of(refusal);
             Sorted {
                 number: number,
-                place: import::place_of(refusal),
+                place: import_answers::place_of(refusal),
                 rows: 0,
             }
         }
@@ -52,12 +52,16 @@ fn of_import(answer: Importing) -> Sorted {
 // What both answered is counted and compared.
 fn compare_answers(answer: Sorted, right: Sorted, tally: &mut [u64]) {
     let verdict = both(answer.number == right.number, answer.place == right.place);
-    add(tally, crate::tally::ALL_IMPORTS, 1);
-    add(tally, plus(crate::tally::IMPORTS, right.number as usize), 1);
+    add(tally, trial_tally::tally::ALL_IMPORTS, 1);
+    add(
+        tally,
+        plus(trial_tally::tally::IMPORTS, right.number as usize),
+        1,
+    );
     hold(
         tally,
         both(verdict, answer.rows == right.rows),
-        crate::tally::IMPORT_ANSWERS,
+        trial_tally::tally::IMPORT_ANSWERS,
     );
 }
 
@@ -65,13 +69,13 @@ fn compare_answers(answer: Sorted, right: Sorted, tally: &mut [u64]) {
 fn import_short(text: &[u8], result: &mut [u8], work: &mut [u8]) -> Sorted {
     let mut tables = rooms::short_table();
     let mut lists = rooms::short_list();
-    reference::importing::import(text, &mut tables, &mut lists, result, work)
+    reference_import::importing::import(text, &mut tables, &mut lists, result, work)
 }
 
 fn import_long(text: &[u8], result: &mut [u8], work: &mut [u8]) -> Sorted {
     let mut tables = rooms::long_table();
     let mut lists = rooms::long_list();
-    reference::importing::import(text, &mut tables, &mut lists, result, work)
+    reference_import::importing::import(text, &mut tables, &mut lists, result, work)
 }
 
 fn import_any(text: &[u8], result: &mut [u8], work: &mut [u8]) -> Sorted {
@@ -109,8 +113,12 @@ fn import_again(
     let expected: &mut [u8] = &mut results;
     let cleared: &mut [u8] = &mut works;
     let right = import_lent(text, result_end, work_end, expected, cleared);
-    hold(tally, same(result, expected), crate::tally::IMPORT_RESULTS);
-    hold(tally, same(work, cleared), crate::tally::IMPORT_WORKS);
+    hold(
+        tally,
+        same(result, expected),
+        trial_tally::tally::IMPORT_RESULTS,
+    );
+    hold(tally, same(work, cleared), trial_tally::tally::IMPORT_WORKS);
     right
 }
 
@@ -129,27 +137,31 @@ fn import_both(text: &[u8], seed: &mut u64, result: &mut [u8], tally: &mut [u64]
 
 // Folded with wish 0, as the other files are; its differences count as one.
 fn try_fold(file: &[u8], seed: &mut u64, tally: &mut [u64]) {
-    let mut counts = crate::tally::fresh();
+    let mut counts = trial_tally::tally::fresh();
     let own: &mut [u64] = &mut counts;
-    crate::try_wish(file, 0, seed, own);
-    let done = crate::tally::count(own, 0);
-    add(tally, crate::tally::IMPORTS_FOLDED, (done % 2) as usize);
+    trial_operations::folds::try_wish(file, 0, seed, own);
+    let done = trial_tally::tally::count(own, 0);
+    add(
+        tally,
+        trial_tally::tally::IMPORTS_FOLDED,
+        (done % 2) as usize,
+    );
     hold(
         tally,
-        crate::tally::differences(own) == 0,
-        crate::tally::IMPORT_FOLDS,
+        trial_tally::tally::differences(own) == 0,
+        trial_tally::tally::IMPORT_FOLDS,
     );
 }
 
 fn try_imported(text: &[u8], file: &[u8], seed: &mut u64, tally: &mut [u64]) {
-    let accepted = crate::files::check_right(file, said(0, 0));
-    hold(tally, accepted, crate::tally::IMPORT_UNACCEPTED);
+    let accepted = trial_operations::files::check_right(file, said(0, 0));
+    hold(tally, accepted, trial_tally::tally::IMPORT_UNACCEPTED);
     hold(
         tally,
-        crate::sorts::is_stable(file),
-        crate::tally::IMPORT_UNSTABLE,
+        trial_operations::sorts::is_stable(file),
+        trial_tally::tally::IMPORT_UNSTABLE,
     );
-    crate::runs::try_text(text, file, seed, tally);
+    trial_operations::runs::try_text(text, file, seed, tally);
     if file.len() <= 1024 {
         try_fold(file, seed, tally);
     }
@@ -160,7 +172,7 @@ fn try_import(text: &[u8], seed: &mut u64, tally: &mut [u64]) {
     let result: &mut [u8] = &mut results;
     let answer = import_both(text, seed, result, tally);
     if answer.number == 0 {
-        let size = crate::length_of(answer.rows);
+        let size = trial_operations::folds::length_of(answer.rows);
         try_imported(text, first(result, size), seed, tally);
     }
 }
@@ -172,18 +184,18 @@ fn put_short(seed: &mut u64, plan: Plan, text: &mut [u8]) -> usize {
     let mut names = rooms::short_list();
     let mut order = rooms::short_list();
     let mut uses = rooms::short_pairs();
-    crate::aigers::put_text(seed, plan, &mut names, &mut order, &mut uses, text)
+    trial_texts::put_text(seed, plan, &mut names, &mut order, &mut uses, text)
 }
 
 fn put_long(seed: &mut u64, plan: Plan, text: &mut [u8]) -> usize {
     let mut names = rooms::long_list();
     let mut order = rooms::long_list();
     let mut uses = rooms::long_pairs();
-    crate::aigers::put_text(seed, plan, &mut names, &mut order, &mut uses, text)
+    trial_texts::put_text(seed, plan, &mut names, &mut order, &mut uses, text)
 }
 
 fn put_text(seed: &mut u64, plan: Plan, text: &mut [u8]) -> usize {
-    if crate::aigers::rows_of(plan) < 8192 {
+    if trial_uses::rows_of(plan) < 8192 {
         put_short(seed, plan, text)
     } else {
         put_long(seed, plan, text)
@@ -191,7 +203,7 @@ fn put_text(seed: &mut u64, plan: Plan, text: &mut [u8]) -> usize {
 }
 
 fn try_damaged(seed: &mut u64, text: &mut [u8], size: usize, tally: &mut [u64]) {
-    let left = crate::aigers::damage(seed, text, size);
+    let left = trial_texts::damage(seed, text, size);
     try_import(first(text, left), seed, tally);
 }
 
@@ -208,15 +220,15 @@ fn try_plan(seed: &mut u64, plan: Plan, damaged: bool, tally: &mut [u64]) {
 
 fn try_many(seed: &mut u64, count: usize, most: usize, tally: &mut [u64]) {
     'texts: for i in 0..count {
-        let plan = crate::aigers::any_plan(seed, most);
-        let damaged = crate::dice::chance(seed, 2);
+        let plan = trial_texts::any_plan(seed, most);
+        let damaged = trial_pieces::dice::chance(seed, 2);
         try_plan(seed, plan, damaged, tally);
     }
 }
 
 // The most rows of a file, one less and one more; the most that Run and Sort take with little work, and one more; half of the most and some more; and so many that their names just fill the product's room for them.
 fn long_rows(seed: &mut u64, i: usize) -> usize {
-    let near = crate::dice::roll(seed, 8);
+    let near = trial_pieces::dice::roll(seed, 8);
     match i % 7 {
         0 => 32255,
         1 => 32256,
@@ -232,9 +244,9 @@ fn long_rows(seed: &mut u64, i: usize) -> usize {
 fn long_fault(i: usize) -> usize {
     match i / 7 % 4 {
         0 => 0,
-        1 => crate::aigers::TWICE,
-        2 => crate::aigers::UNDEFINED,
-        _ => crate::aigers::LOOP,
+        1 => trial_uses::TWICE,
+        2 => trial_uses::UNDEFINED,
+        _ => trial_uses::LOOP,
     }
 }
 
@@ -242,25 +254,25 @@ fn try_long(seed: &mut u64, tally: &mut [u64]) {
     let end: usize = LONG;
     'texts: for i in 0..end {
         let rows = long_rows(seed, i);
-        let plan = crate::aigers::long_plan(seed, rows, long_fault(i));
+        let plan = trial_texts::long_plan(seed, rows, long_fault(i));
         try_plan(seed, plan, false, tally);
     }
 }
 
 // The long texts are counted apart.
 fn try_all_long(tally: &mut [u64]) {
-    let mut counts = crate::tally::fresh();
+    let mut counts = trial_tally::tally::fresh();
     let own: &mut [u64] = &mut counts;
     let mut seed = LONG_SEED;
     try_long(&mut seed, own);
-    crate::tally::take(
+    trial_tally::tally::take(
         own,
-        crate::tally::IMPORTS,
+        trial_tally::tally::IMPORTS,
         26,
         tally,
-        crate::tally::LONG_IMPORTS,
+        trial_tally::tally::LONG_IMPORTS,
     );
-    crate::tally::take_differences(own, tally);
+    trial_tally::tally::take_differences(own, tally);
 }
 
 pub fn try_all(tally: &mut [u64]) {

@@ -1,7 +1,7 @@
 -- `c_answers::run_numbers` gives Run's refusal as numbers.
 -- Assumes nothing.
 use mathlib.Core.Path.{_∙_}
-use Rattle.run.specs.RunAnswers.{runRefusalIn}
+use Rattle.run_answers.specs.RunAnswers.{runRefusalIn}
 use Rattle.c_answers.proofs.NumberLaws.{numbers-by}
 use borrow.Author.Needs.{needs}
 use Rattle.c_answers.proofs.run_numbers.Statement.{statement}

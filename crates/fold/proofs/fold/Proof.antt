@@ -45,19 +45,19 @@ use Rattle.clock_list.specs.ClockCode.{clocksOf}
 use Rattle.clock_list.specs.declared.Clock.{Clock}
 use Rattle.clock_list.proofs.Clock as clock
 use Rattle.clock_list.proofs.WalkSteps.{unit-typed, lends-slice-on, slice-returned, shares-slice-on, shared-returned}
-use Rattle.fold_core.specs.FoldAnswers.{usedIn}
-use Rattle.fold_core.specs.FoldOutcome.{CoreFolded}
-use Rattle.fold_core.specs.declared.Folding.{Folding}
-use Rattle.fold_core.proofs.Folding as folding
-use Rattle.fold_core.proofs.Folding.Laws as folding-laws
+use Rattle.fold_answers.specs.FoldAnswers.{usedIn}
+use Rattle.fold_answers.specs.FoldOutcome.{CoreFolded}
+use Rattle.fold_answers.specs.declared.Folding.{Folding}
+use Rattle.fold_answers.proofs.Folding as folding
+use Rattle.fold_answers.proofs.Folding.Laws as folding-laws
 use Rattle.fold_core.proofs.fold_core as fold-core
 use Rattle.fold_core.proofs.fold_core.Symbol as fold-core-def
 use Rattle.fold_core.proofs.fold_core.Symbol.{name as #fold-core}
 use Rattle.fold_core.proofs.fold_core.Met as fold-core-thm
-use Rattle.fold_core.proofs.used_of as used-of
-use Rattle.fold_core.proofs.used_of.Symbol as used-of-def
-use Rattle.fold_core.proofs.used_of.Symbol.{name as #used-of}
-use Rattle.fold_core.proofs.used_of.Met as used-of-thm
+use Rattle.fold_answers.proofs.used_of as used-of
+use Rattle.fold_answers.proofs.used_of.Symbol as used-of-def
+use Rattle.fold_answers.proofs.used_of.Symbol.{name as #used-of}
+use Rattle.fold_answers.proofs.used_of.Met as used-of-thm
 use Rattle.clock_list.proofs.set_clocks as set-clocks
 use Rattle.clock_list.proofs.set_clocks.Symbol as set-clocks-def
 use Rattle.clock_list.proofs.set_clocks.Symbol.{name as #set-clocks}
@@ -66,8 +66,8 @@ use Rattle.memory.proofs.clear as clear
 use Rattle.memory.proofs.clear.Symbol as clear-def
 use Rattle.memory.proofs.clear.Symbol.{name as #clear}
 use Rattle.memory.proofs.clear.Met as clear-thm
-use Rattle.fold.specs.FoldedOutcome.{Folded}
-use Rattle.fold.proofs.FoldedLaws.{folded-by}
+use Rattle.fold_answers.specs.FoldedOutcome.{Folded}
+use Rattle.fold_answers.proofs.FoldedLaws.{folded-by}
 use Rattle.fold.proofs.fold.Key.{name as #fold}
 use Rattle.fold.proofs.fold as fold
 use Rattle.fold.proofs.fold.Statement as stated
@@ -286,6 +286,6 @@ fold-spec 𝓤 H 𝓜 𝓖 𝓡 =
     (tables 𝓤 H 𝓜 𝓡 code.env .C) (tables 𝓤 H 𝓜 𝓡 code.env .Λ) #fold code.function (code.unfolded 𝓤 H 𝓜 𝓡)
     (fold-meets 𝓤 H (𝓖 .A) (givenOf 𝓤 H 𝓜 𝓖) (𝓜 .mem) (𝓡 .run) (tablesOf 𝓤 H 𝓜 (tables 𝓤 H 𝓜 𝓡 code.env))
     (cited 𝓤 H (FoldCore 𝓤 H (𝓖 .A) (𝓜 .mem) (𝓡 .run)) 𝓜 𝓡 code.env #fold-core fold-core-def.routine code.calls-fold-core·fold-core (fold-core-thm.met 𝓤 H 𝓜 𝓖 𝓡))
-    (cited 𝓤 H (UsedOf 𝓤 H (𝓖 .A) (𝓜 .mem) (𝓡 .run)) 𝓜 𝓡 code.env #used-of used-of-def.routine code.calls-fold-core·used-of (used-of-thm.met 𝓤 H 𝓜 𝓖 𝓡))
+    (cited 𝓤 H (UsedOf 𝓤 H (𝓖 .A) (𝓜 .mem) (𝓡 .run)) 𝓜 𝓡 code.env #used-of used-of-def.routine code.calls-fold-answers·used-of (used-of-thm.met 𝓤 H 𝓜 𝓖 𝓡))
     (cited 𝓤 H (SetClocks 𝓤 H (𝓖 .A) (𝓜 .mem) (𝓡 .run)) 𝓜 𝓡 code.env #set-clocks set-clocks-def.routine code.calls-clock-list·set-clocks (set-clocks-thm.met 𝓤 H 𝓜 𝓖 𝓡))
     (cited 𝓤 H (Clear 𝓤 H (𝓖 .A) (𝓜 .mem) (𝓡 .run)) 𝓜 𝓡 code.env #clear clear-def.routine code.calls-memory·clear (clear-thm.met 𝓤 H 𝓜 𝓖 𝓡)))

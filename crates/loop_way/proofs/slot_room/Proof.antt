@@ -1,4 +1,4 @@
--- `loop_way::slot_room` meets its contract: an array of one byte repeated has its length by a law, so that nothing counts its bytes.
+-- `slot_room` meets its contract: an array of one byte repeated has its length by a law, so that nothing counts its bytes.
 -- Assumes nothing.
 use Prim.Native.Nat.{ℕ}
 use mathlib.Core.Path.{sym}

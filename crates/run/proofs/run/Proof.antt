@@ -1,6 +1,6 @@
 -- `run::run` leaves what Run's definition says, by its plan.
 -- Assumes nothing.
-use Rattle.run.proofs.RanLaws.{ran-refused, given-by, room-by, ran-done}
+use Rattle.run.proofs.RanLaws.{stopped-by, given-by, room-by, done-by}
 use borrow.Author.Needs.{needs}
 use Rattle.run.proofs.run.Statement.{statement}
 use Rattle.run.proofs.run.Tie as tie
@@ -9,10 +9,10 @@ run-cleared-requires : tie.Need-run-cleared-requires
 run-cleared-requires c κs = search (given-by, room-by)
 
 returns : tie.Need-returns
-returns c = search ran-refused
+returns c = search stopped-by
 
 returns-2 : tie.Need-returns-2
-returns-2 c = search ran-done
+returns-2 c = search done-by
 
 pub run-spec : {M : Type 1} → statement M
 run-spec =

@@ -45,17 +45,17 @@ use denote.Signature.{plain}
 use Rattle.clock_list.specs.declared.Clock.{Clock}
 use Rattle.clock_list.proofs.Clock as clock
 use Rattle.clock_list.proofs.Clock.Laws as clock-laws
-use Rattle.fold_core.specs.declared.Folding.{Folding}
-use Rattle.fold_core.proofs.Folding as folding
-use Rattle.fold_core.proofs.Folding.Laws as folding-laws
-use Rattle.fold.specs.FoldedOutcome.{Folded as FoldDone}
+use Rattle.fold_answers.specs.declared.Folding.{Folding}
+use Rattle.fold_answers.proofs.Folding as folding
+use Rattle.fold_answers.proofs.Folding.Laws as folding-laws
+use Rattle.fold_answers.specs.FoldedOutcome.{Folded as FoldDone}
 use Rattle.fold.proofs.fold as fold
 use Rattle.fold.proofs.fold.Symbol as fold-def
 use Rattle.fold.proofs.fold.Symbol.{name as #fold}
 use Rattle.fold.proofs.fold.Met as fold-thm
-use Rattle.reference.specs.declared.Folded.{Folded}
-use Rattle.reference.proofs.Folded as folded
-use Rattle.reference.proofs.Folded.Laws as folded-laws
+use Rattle.reference_fold.specs.declared.Folded.{Folded}
+use Rattle.reference_fold.proofs.Folded as folded
+use Rattle.reference_fold.proofs.Folded.Laws as folded-laws
 use Rattle.fold_trials.proofs.ArraySteps.{front, front-lent, front-returned}
 use Rattle.fold_trials.proofs.listed.fillers as fillers
 use Rattle.fold_trials.proofs.listed.fillers.Symbol as fillers-def

@@ -1,4 +1,4 @@
--- `pf::block_causes::first_used` is safe and ends. The index does not fall; the measure is what is left of the block.
+-- `first_used` is safe and ends. The index does not fall; the measure is what is left of the block.
 -- Assumes nothing.
 use Prim.Native.Nat.{_-_, _≤_}
 use lib.ListN.{length}

@@ -1,4 +1,4 @@
--- `pf::row_causes::first_named` is safe and ends. The row asked is at most the row given; the measure is how many are left.
+-- `first_named` is safe and ends. The row asked is at most the row given; the measure is how many are left.
 -- Assumes nothing.
 use Prim.Native.Nat.{_-_, _≤_}
 use borrow.Author.Needs.{needs}

@@ -39,10 +39,10 @@ use denote.Exit.{yes}
 use denote.Signature.{plain}
 use Rattle.clock_list.specs.declared.Clock.{Clock}
 use Rattle.clock_list.proofs.Clock as clock
-use Rattle.fold_core.specs.declared.Folding.{Folding}
-use Rattle.fold_core.proofs.Folding as folding
-use Rattle.fold_core.proofs.Folding.Laws as folding-laws
-use Rattle.fold.specs.FoldedOutcome.{Folded}
+use Rattle.fold_answers.specs.declared.Folding.{Folding}
+use Rattle.fold_answers.proofs.Folding as folding
+use Rattle.fold_answers.proofs.Folding.Laws as folding-laws
+use Rattle.fold_answers.specs.FoldedOutcome.{Folded}
 use Rattle.c_answers.specs.AnswerNumbers.{foldedNumbers}
 use Rattle.phasefold.specs.ForeignAnswers.{FoldedFlat}
 use Rattle.c_answers.specs.declared.PfFolded.{PfFolded}

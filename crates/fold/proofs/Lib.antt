@@ -1,2 +1,0 @@
--- Laws of Fold's outcome.
-pub mod FoldedLaws

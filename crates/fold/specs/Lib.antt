@@ -1,2 +1,0 @@
--- What Fold promises.
-pub mod FoldedOutcome

@@ -1,0 +1,3 @@
+-- Laws of Fold's outcome.
+pub mod CoreLaws
+pub mod FoldedLaws

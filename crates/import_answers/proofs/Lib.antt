@@ -1,0 +1,2 @@
+-- Laws of Import's outcome.
+pub mod ImportedLaws

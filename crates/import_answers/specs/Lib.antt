@@ -1,0 +1,3 @@
+-- Import's answers and its outcome.
+pub mod ImportAnswers
+pub mod ImportOutcome

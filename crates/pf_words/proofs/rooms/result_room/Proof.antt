@@ -1,0 +1,13 @@
+-- `result_room` meets its contract.
+-- Assumes nothing.
+use Prim.Native.Nat.{ℕ}
+use mathlib.Core.Path.{sym}
+use lib.ListN.{length-replicate}
+use Rattle.pf_words.proofs.rooms.result_room.Statement.{statement}
+use Rattle.pf_words.proofs.rooms.result_room.Tie as tie
+
+returns : tie.Need-returns
+returns c = sym (length-replicate {A = ℕ} 262144 0)
+
+pub result-room-spec : {M : Type 1} → statement M
+result-room-spec = tie.close (tie.spec returns)

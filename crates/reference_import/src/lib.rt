@@ -1,0 +1,3 @@
+// The second sorter and importer.
+pub mod importing;
+pub mod sorting;

@@ -1,0 +1,2 @@
+-- Laws of Run's outcome.
+pub mod RanLaws

@@ -1,0 +1,3 @@
+-- Run's answers and its outcome.
+pub mod RunAnswers
+pub mod Ran

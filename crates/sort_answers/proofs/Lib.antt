@@ -1,0 +1,2 @@
+-- Laws of Sort's outcome.
+pub mod SortedLaws

@@ -1,0 +1,3 @@
+-- Sort's answers and its outcome.
+pub mod SortAnswers
+pub mod SortOutcome

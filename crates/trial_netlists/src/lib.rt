@@ -1,0 +1,3 @@
+// Random netlists, and damage done to their files.
+pub mod damage;
+pub mod netlists;

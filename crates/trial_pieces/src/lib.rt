@@ -1,0 +1,3 @@
+// Random numbers, and the pieces that random netlists are made of.
+pub mod dice;
+pub mod pieces;

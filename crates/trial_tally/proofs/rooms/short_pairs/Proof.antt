@@ -1,0 +1,13 @@
+-- `short_pairs` meets its contract.
+-- Assumes nothing.
+use Prim.Native.Nat.{ℕ}
+use mathlib.Core.Path.{sym}
+use lib.ListN.{length-replicate}
+use Rattle.trial_tally.proofs.rooms.short_pairs.Statement.{statement}
+use Rattle.trial_tally.proofs.rooms.short_pairs.Tie as tie
+
+returns : tie.Need-returns
+returns c = sym (length-replicate {A = ℕ} 16384 0)
+
+pub short-pairs-spec : {M : Type 1} → statement M
+short-pairs-spec = tie.close (tie.spec returns)

@@ -1,0 +1,3 @@
+// What is counted and printed, and the memories of the trials.
+pub mod rooms;
+pub mod tally;
