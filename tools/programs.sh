@@ -19,9 +19,11 @@ fail() {
     exit 2
 }
 
-# checksum PATH...: of all files there, their names and their bytes.
+# checksum PATH...: of all files there, their names and their bytes. Names as editors give them to files of their own, .x and x~,
+# are left out where rt reads none such: everywhere but in a crate's data.
 checksum() {
-    (cd -- "$top/" && find "$@" -type f -exec sha256sum {} + | LC_ALL=C sort | sha256sum) 2>/dev/null
+    (cd -- "$top/" && find "$@" \( -name '.*' -o -name '*~' \) ! -path '*/data/*' -prune -o -type f -exec sha256sum {} + |
+        LC_ALL=C sort | sha256sum) 2>/dev/null
 }
 
 sources() {

@@ -36,6 +36,15 @@ check_old() {
     [ -r "$path" ] || fail "$result: cannot be read, and is not replaced unseen"
 }
 
+# keep_apart FILE RESULT: ends the call if the result is the file that is read, by whatever name or link.
+keep_apart() {
+    [ "$1" = - ] && read_from=/dev/stdin || read_from=$1
+    [ "$2" = - ] && write_to=/dev/stdout || write_to=$2
+    if [ -f "$read_from" ] && [ "$read_from" -ef "$write_to" ]; then
+        fail "$2: is the file that is folded, and would be lost: name another result"
+    fi
+}
+
 # open_result RESULT: - is standard output, and then what is printed goes to standard error.
 open_result() {
     result=$1
@@ -68,7 +77,7 @@ open_result() {
 copy_mode() {
     cp --attributes-only --preserve=mode,ownership -- "$path" "$side" 2>/dev/null ||
         chmod --reference="$path" -- "$side" || return
-    [ "$(stat -c %g -- "$path")" = "$(stat -c %g -- "$side")" ] || chmod g= -- "$side"
+    [ "$(stat -c %g -- "$path")" = "$(stat -c %g -- "$side")" ] || chmod -- g= "$side"
 }
 
 replace_old() {
@@ -77,7 +86,7 @@ replace_old() {
 
 # A file that has come to be there since the program was started stays.
 put_new() {
-    chmod =rw -- "$side" && mv -nT -- "$side" "$path" 2>/dev/null
+    chmod -- =rw "$side" && mv -nT -- "$side" "$path" 2>/dev/null
     [ -e "$side" ] || return 0
     ! [ -e "$path" ] || fail "$result: has come to be there meanwhile, and is not replaced"
     fail "$result: cannot be written"
