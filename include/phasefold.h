@@ -20,13 +20,29 @@
 #include <stddef.h>
 #include <stdint.h>
 
-/* Another number for every change of this interface. */
-#define PF_VERSION 4
+/* Another number for every change of this interface; pf_version() answers the library's own. */
+#define PF_VERSION 5
 
 /* A block's bytes and rows, and the bytes of the longest file. */
 #define PF_BLOCK_SIZE 512
 #define PF_BLOCK_ROWS 63
 #define PF_FILE_MAX 262144
+
+/* Where a row stands in a file: its first byte. A row has 8: kind, reset, then a, b and c, of two bytes
+ * each, the low one first. */
+#define PF_ROW_SIZE 8
+#define PF_ROW_OFFSET(row) \
+    ((size_t)PF_BLOCK_SIZE * ((size_t)(row) / PF_BLOCK_ROWS) + 4 + PF_ROW_SIZE * ((size_t)(row) % PF_BLOCK_ROWS))
+
+/* The kinds of rows. A next value, an operand and what an output shows is a literal: twice a row's number,
+ * and one more to have its value inverted. */
+#define PF_CONSTANT 0 /* row 0 alone */
+#define PF_INPUT 1    /* a label, b phase */
+#define PF_REGISTER 2 /* a next value, b label; reset 0, 1, or 2 for X */
+#define PF_AND 3      /* of a and b */
+#define PF_XOR 4      /* of a and b */
+#define PF_MUX 5      /* b if a is 1, c if a is 0 */
+#define PF_OUTPUT 6   /* a what it shows, b label, c phase */
 
 /* The bytes of a file of so many rows, as of the folded file from `after`. */
 #define PF_FILE_SIZE(rows) ((size_t)PF_BLOCK_SIZE * (((size_t)(rows) + PF_BLOCK_ROWS - 1) / PF_BLOCK_ROWS))
@@ -69,6 +85,37 @@ typedef struct { uint16_t label; uint8_t period, word; uint32_t ones; } pf_clock
 
 /* The rows of the file that was written. */
 typedef struct { uint32_t number, place, rows; } pf_written;
+
+/* Refusals, by number (B: the place is a block, R: a row):
+ *  1    the length is not 512 times 1 to 512 bytes
+ *  2 B  the block's 128 words do not sum to 4294967295 modulo 2 to the 32
+ *  3 B  the block's head: its last-block mark (byte 0) or its number (bytes 1 and 3)
+ *  4 B  the block's row count is not 63, or in the last block not 1 to 63
+ *  5 B  a byte after the block's last row is not zero
+ *  6 R  a kind above 6, a constant that is not row 0, a row 0 that is no constant, a node after an output
+ *  7 R  a field that the kind does not use is not zero, or reset or phase is out of range
+ *  8 R  an earlier row of the same kind has its label (for inputs and outputs: label and phase)
+ *  9 R  a literal that names no node, or in a gate no earlier row (for pf_sort: no node)
+ * 10    there is no output
+ * 11    more than 1008 rows, for a fold
+ * 12    more than 256 registers, for a fold
+ * 13 R  an input or output of a netlist that is to be folded has a phase that is not 0
+ * 14    the wish is above 8
+ * 15    the memory that is lent to pf_fold is too small
+ * 16    states 0 to 256 of the three-valued run all differ: there is no lasso
+ * 17    more than 4096 steps
+ * 18    a list of values that has not exactly its length
+ * 19    a value that is not 0 or 1
+ * 20    the memory that is lent to pf_run is too small
+ * 21    there is no block of this number
+ * 22 R  a loop of gates: the row is the lowest gate that is in one or behind one
+ * 23    the memory that is lent to pf_sort or pf_import is too small
+ * 24    the text is no ASCII AIGER as it is taken
+ * 25    the text has more than 32256 rows
+ */
+
+/* The number of the interface that this library has: PF_VERSION of the header that belongs to it. */
+uint32_t pf_version(void);
 
 /* Is this a netlist file? Refusals 1 to 10. */
 pf_refusal pf_check(const uint8_t *file, size_t file_len);

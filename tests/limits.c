@@ -57,7 +57,7 @@ static void expect_fold(size_t size)
 
 static uint8_t *row_at(size_t row)
 {
-    return file + PF_BLOCK_SIZE * (row / PF_BLOCK_ROWS) + 4 + 8 * (row % PF_BLOCK_ROWS);
+    return file + PF_ROW_OFFSET(row);
 }
 
 static void set_field(size_t row, size_t field, unsigned value)
@@ -65,6 +65,17 @@ static void set_field(size_t row, size_t field, unsigned value)
     uint8_t *at = row_at(row) + 2 + 2 * field;
     at[0] = value & 255;
     at[1] = value >> 8;
+}
+
+/* The sample's rows stand where the header says, and have its kinds. */
+static void expect_kinds(void)
+{
+    static const uint8_t kinds[] = {PF_CONSTANT, PF_INPUT, PF_REGISTER, PF_REGISTER, PF_REGISTER, PF_MUX, PF_MUX, PF_OUTPUT};
+    for (size_t row = 0; row < sizeof kinds; row++) expect("a kind of the sample", *row_at(row), kinds[row]);
+    expect("AND", PF_AND, 3);
+    expect("XOR", PF_XOR, 4);
+    expect("the last row of a block", PF_ROW_OFFSET(62), 500);
+    expect("the first row of the next", PF_ROW_OFFSET(63), 516);
 }
 
 /* Makes the check of a block right. */
@@ -81,10 +92,10 @@ static size_t make_long(size_t rows)
     size_t blocks = (rows + PF_BLOCK_ROWS - 1) / PF_BLOCK_ROWS;
     memset(file, 0, sizeof file);
     for (size_t row = 1; row < rows - 1; row++) {
-        *row_at(row) = 1;
+        *row_at(row) = PF_INPUT;
         set_field(row, 0, row);
     }
-    *row_at(rows - 1) = 6;
+    *row_at(rows - 1) = PF_OUTPUT;
     for (size_t k = 0; k < blocks; k++) {
         uint8_t *block = file + PF_BLOCK_SIZE * k;
         block[0] = k == blocks - 1 ? 2 : 1;
@@ -228,7 +239,9 @@ int main(int count, char **words)
     size_t size = fread(file, 1, sizeof file, from);
     fclose(from);
 
-    expect("version", PF_VERSION, 4);
+    expect("version", PF_VERSION, 5);
+    expect("the library's version", pf_version(), PF_VERSION);
+    expect_kinds();
     expect("a file of 1 row", PF_FILE_SIZE(1), PF_BLOCK_SIZE);
     expect("a file of 63 rows", PF_FILE_SIZE(PF_BLOCK_ROWS), PF_BLOCK_SIZE);
     expect("a file of 64 rows", PF_FILE_SIZE(PF_BLOCK_ROWS + 1), 2 * PF_BLOCK_SIZE);
@@ -241,7 +254,7 @@ int main(int count, char **words)
     expect("few clocks", fold(size, PF_FOLD_RESULT, PF_FOLD_WORK, PF_FOLD_CLOCKS - 1), 15);
     expect("run", run(size, PF_ROW_WORK(8)), 0);
     expect("short work of run", run(size, PF_ROW_WORK(8) - 1), 20);
-    expect("show", pf_show(file, size, 0).size, PF_BLOCK_ROWS * 8);
+    expect("show", pf_show(file, size, 0).size, PF_BLOCK_ROWS * PF_ROW_SIZE);
     expect_fold(size);
     expect_null(size);
     expect_sort(size);

@@ -1,5 +1,5 @@
 -- The answers that C callers get, as numbers: those of the scope paper, "Questions, in order" and "Operations and lent memory".
--- Interface: refusalNumbers, acceptedCounts, refusedCounts, foldedNumbers, writtenNumbers.
+-- Interface: interfaceNumber, refusalNumbers, acceptedCounts, refusedCounts, foldedNumbers, writtenNumbers.
 -- Assumes nothing.
 use Prim.Native.Nat.{ℕ}
 use Rattle.questions.specs.Questions.{Refusal, Counts}
@@ -9,6 +9,10 @@ use Rattle.c_answers.specs.declared.PfRefusal.{PfRefusal}
 use Rattle.c_answers.specs.declared.PfCounts.{PfCounts}
 use Rattle.c_answers.specs.declared.PfFolded.{PfFolded}
 use Rattle.c_answers.specs.declared.PfWritten.{PfWritten}
+
+-- Another number for every change of what C callers are compiled with: PF_VERSION of the header.
+abbrev pub interfaceNumber : ℕ
+interfaceNumber = 5
 
 abbrev pub refusalNumbers : Refusal → PfRefusal
 refusalNumbers q = record { number = q .number; place = q .place }

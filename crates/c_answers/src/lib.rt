@@ -10,7 +10,7 @@ ghost use Rattle.fold_refusals.specs.FoldRefusals.{foldRefusalIn};
 ghost use Rattle.show.specs.ShowOutcome.{partOffset};
 ghost use Rattle.import_answers.specs.ImportAnswers.{importRefusalIn};
 ghost use Rattle.sort_answers.specs.SortAnswers.{sortRefusalIn};
-ghost use Rattle.c_answers.specs.AnswerNumbers.{refusalNumbers, acceptedCounts, refusedCounts, foldedNumbers, writtenNumbers};
+ghost use Rattle.c_answers.specs.AnswerNumbers.{interfaceNumber, refusalNumbers, acceptedCounts, refusedCounts, foldedNumbers, writtenNumbers};
 use accept::FileRefusal;
 use blockfile::count::Counts;
 use fold_answers::Folding;
@@ -18,6 +18,15 @@ use fold_refusals::FoldRefusal;
 use import_answers::ImportRefusal;
 use run_answers::RunRefusal;
 use sort_answers::SortRefusal;
+
+const INTERFACE: u32 = 5;
+
+// The number of the interface that this library has.
+pub fn interface_number() -> u32
+    ensures { λ r. ⌜ r ≡ interfaceNumber ⌝ }
+{
+    INTERFACE
+}
 
 #[repr(C)]
 pub struct PfRefusal {

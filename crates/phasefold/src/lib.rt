@@ -1,4 +1,4 @@
-// The phase folder's public library: Check, Count, Show, Sort, Import, Run and Fold, and a file for each with its export to C: there a slice is a pointer and a length.
+// The phase folder's public library: Check, Count, Show, Sort, Import, Run and Fold, and a file for each with its export to C, where a slice is a pointer and a length, and one for the interface's number.
 pub use accept::Acceptance;
 pub use accept::FileRefusal;
 pub use accept::accept as check;
@@ -28,3 +28,4 @@ pub mod c_import;
 pub mod c_run;
 pub mod c_show;
 pub mod c_sort;
+pub mod c_version;
