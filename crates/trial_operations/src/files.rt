@@ -2,7 +2,7 @@
 use accept::Acceptance;
 use accept::FileRefusal;
 use blockfile::count::Counts;
-use phasefold::CountAnswer;
+use count::CountAnswer;
 use reference_questions::Verdict;
 use reference_rows::rows::count_kind;
 use reference_rows::rows::rows_of;
@@ -55,7 +55,7 @@ pub fn same_verdict(x: Verdict, y: Verdict) -> bool {
 // ---- Check
 
 pub fn check_right(file: &[u8], right: Verdict) -> bool {
-    let answer = of_check(phasefold::check(file));
+    let answer = of_check(accept::accept(file));
     same_verdict(answer, right)
 }
 
@@ -73,7 +73,7 @@ fn rows_right(file: &[u8], counts: Counts) -> bool {
 fn registers_right(file: &[u8], counts: Counts) -> bool {
     let rows = rows_of(file);
     let registers = counts.registers == count_kind(file, rows, 2);
-    let unknown = counts.unknown == crate::runs::unknown_in(file);
+    let unknown = counts.unknown == trial_runs::unknown_in(file);
     both(registers, unknown)
 }
 
@@ -84,7 +84,7 @@ fn counts_right(file: &[u8], counts: Counts) -> bool {
 }
 
 pub fn count_right(file: &[u8], right: Verdict) -> bool {
-    match phasefold::count(file) {
+    match count::count(file) {
         CountAnswer::Counted(counts) => both(right.number == 0, counts_right(file, counts)),
         CountAnswer::Refused(refusal) => same_verdict(of_file(refusal), right),
     }
@@ -124,7 +124,7 @@ fn any_block(seed: u64, blocks: usize) -> u32 {
 pub fn show_right(file: &[u8], block: u32, expected: Verdict) -> bool {
     let mut number: u32 = 77;
     let mut place: u32 = 77;
-    let shown = phasefold::show(file, block, &mut number, &mut place);
+    let shown = show::show(file, block, &mut number, &mut place);
     let part = part_of(file, block, expected.number);
     let answer = said(number, place);
     both(same(shown, part), same_verdict(answer, expected))

@@ -200,5 +200,5 @@ pub fn try_wish(file: &[u8], wish: u32, seed: &mut u64, tally: &mut [u64]) {
     }
     let size = length_of(answer.after);
     let phases = answer.phases as usize;
-    crate::runs::try_run(file, first(result, size), phases, seed, tally);
+    trial_runs::try_run(file, first(result, size), phases, seed, tally);
 }

@@ -1,12 +1,8 @@
 // Sort of files whose nodes stand in any order, by the product and by the reference: answers, every byte of result and work. What is sorted is checked, sorted again, and run beside the file.
 use crate::files::of_file;
 use crate::files::said;
-use crate::runs::get_word;
-use crate::runs::put_word;
 use reference_import::sorting::Sorted;
 use reference_questions::Verdict;
-use reference_rows::rows::count_kind;
-use reference_rows::rows::row_at;
 use reference_rows::rows::rows_of;
 use reference_rows::rows::work_for;
 use sort_answers::SortRefusal;
@@ -15,11 +11,7 @@ use text::both;
 use text::bytes::first;
 use text::bytes::least;
 use text::bytes::same;
-use trial_pieces::dice::any_literal;
-use trial_pieces::dice::chance;
 use trial_pieces::dice::roll;
-use trial_pieces::dice::roll_from;
-use trial_pieces::pieces::cells;
 use trial_pieces::pieces::plus;
 use trial_tally::rooms;
 use trial_tally::tally::add;
@@ -27,75 +19,6 @@ use trial_tally::tally::hold;
 
 // So much of the result behind the file is compared, whether it is lent or not.
 const BEHIND: usize = 64;
-
-// ---- nodes in any order
-
-// A row that changes places with this one: a node after the constant, one time in `rarely`, and else the row itself.
-fn partner(seed: &mut u64, nodes: usize, at: usize, rarely: usize) -> usize {
-    let any = roll_from(seed, 1, at);
-    let moved = chance(seed, rarely);
-    if at == 0 || at >= nodes {
-        return at;
-    }
-    if moved { any } else { at }
-}
-
-// The new number of each row and 1 more.
-fn mix(seed: &mut u64, nodes: usize, rows: usize, rarely: usize, numbers: &mut [u16]) {
-    'rows: for at in 0..rows {
-        let other = partner(seed, nodes, at, rarely);
-        let number = (plus(at, 1) % 65536) as u16;
-        put_word(numbers, at, get_word(numbers, other));
-        put_word(numbers, other, number);
-    }
-}
-
-// A gate's operand becomes any literal; other rows stay.
-fn redraw(file: &mut [u8], seed: &mut u64, nodes: usize) {
-    let at = roll(seed, nodes);
-    let row = row_at(file, at);
-    let literal = any_literal(seed, nodes);
-    let new = match roll(seed, 3) {
-        0 => cells(row.kind, 0, literal, row.b, row.c),
-        1 => cells(row.kind, 0, row.a, literal, row.c),
-        _ => cells(5, 0, row.a, row.b, literal),
-    };
-    if row.kind < 3 {
-        return;
-    }
-    trial_netlists::damage::put_damaged(file, at, new);
-}
-
-fn redraw_some(file: &mut [u8], seed: &mut u64, nodes: usize, count: usize) {
-    'gates: for i in 0..count {
-        redraw(file, seed, nodes);
-    }
-}
-
-fn nodes_in(file: &[u8]) -> usize {
-    let rows = rows_of(file);
-    std::num::wrapping_sub_usize(rows, count_kind(file, rows, 6))
-}
-
-// All nodes of the file change places, or a few.
-pub fn put_shuffled(file: &[u8], seed: &mut u64, mixed: &mut [u8]) {
-    let mut room = rooms::words();
-    let numbers: &mut [u16] = &mut room;
-    let rows = rows_of(file);
-    let rarely = if chance(seed, 4) { 16 } else { 1 };
-    mix(seed, nodes_in(file), rows, rarely, numbers);
-    reference_import::sorting::put_moved(file, rows, numbers, mixed);
-    reference_writing::writer::close(mixed, rows);
-}
-
-// The same, and some operands are drawn again, so that there may be loops.
-pub fn put_mixed(file: &[u8], seed: &mut u64, mixed: &mut [u8]) {
-    put_shuffled(file, seed, mixed);
-    let count = roll(seed, 8);
-    redraw_some(mixed, seed, nodes_in(file), count);
-}
-
-// ---- both
 
 fn of_refusal(refusal: SortRefusal) -> Verdict {
     match refusal {
@@ -184,7 +107,7 @@ fn sort_lent(
     let work: &mut [u8] = &mut works;
     let result_end = least(result_lent, result.len());
     let work_end = least(work_lent, work.len());
-    let answer = phasefold::sort(file, &mut result[0..result_end], &mut work[0..work_end]);
+    let answer = sort::sort(file, &mut result[0..result_end], &mut work[0..work_end]);
     let right = sort_again(file, result_end, work_end, result, work, tally);
     compare_answers(of_sort(answer), right, tally);
     right
@@ -211,7 +134,7 @@ pub fn is_stable(sorted: &[u8]) -> bool {
     let result: &mut [u8] = &mut results;
     let work: &mut [u8] = &mut works;
     let end = least(sorted.len(), result.len());
-    phasefold::sort(sorted, &mut result[0..end], work);
+    sort::sort(sorted, &mut result[0..end], work);
     same(first(result, end), sorted)
 }
 
@@ -219,7 +142,7 @@ fn try_sorted(file: &[u8], sorted: &[u8], seed: &mut u64, tally: &mut [u64]) {
     let accepted = crate::files::check_right(sorted, said(0, 0));
     hold(tally, accepted, trial_tally::tally::UNACCEPTED);
     hold(tally, is_stable(sorted), trial_tally::tally::UNSTABLE);
-    crate::runs::try_sorted(file, sorted, seed, tally);
+    trial_runs::try_sorted(file, sorted, seed, tally);
 }
 
 pub fn try_sort(file: &[u8], seed: &mut u64, tally: &mut [u64]) {
@@ -238,7 +161,7 @@ pub fn try_mixed(file: &[u8], seed: u64, tally: &mut [u64]) {
     let mixed: &mut [u8] = &mut room;
     let mut own = seed;
     let size = file.len();
-    put_mixed(file, &mut own, mixed);
+    trial_mixing::put_mixed(file, &mut own, mixed);
     try_sort(first(mixed, size), &mut own, tally);
     let left = trial_netlists::damage::damage(mixed, &mut own, size);
     try_sort(first(mixed, left), &mut own, tally);

@@ -232,3 +232,15 @@ pub fn put_output(file: &mut [u8], seed: &mut u64, at: usize, nodes: usize) {
     let literal = any_literal(seed, nodes);
     put_row(file, at, cells(6, 0, literal, label_of(at), 0));
 }
+
+// ---- lists of words
+
+pub fn get_word(words: &[u16], at: usize) -> u16 {
+    if at < words.len() { words[at] } else { 0 }
+}
+
+pub fn put_word(words: &mut [u16], at: usize, value: u16) {
+    if at < words.len() {
+        words[at] = value;
+    }
+}

@@ -127,7 +127,7 @@ fn import_both(text: &[u8], seed: &mut u64, result: &mut [u8], tally: &mut [u64]
     let work: &mut [u8] = &mut works;
     let result_end = least(lent_of(seed, LEAST_RESULT), result.len());
     let work_end = least(lent_of(seed, LEAST_WORK), work.len());
-    let answer = phasefold::import(text, &mut result[0..result_end], &mut work[0..work_end]);
+    let answer = import::import(text, &mut result[0..result_end], &mut work[0..work_end]);
     let right = import_again(text, result_end, work_end, result, work, tally);
     compare_answers(of_import(answer), right, tally);
     right
@@ -161,7 +161,7 @@ fn try_imported(text: &[u8], file: &[u8], seed: &mut u64, tally: &mut [u64]) {
         trial_operations::sorts::is_stable(file),
         trial_tally::tally::IMPORT_UNSTABLE,
     );
-    trial_operations::runs::try_text(text, file, seed, tally);
+    trial_runs::try_text(text, file, seed, tally);
     if file.len() <= 1024 {
         try_fold(file, seed, tally);
     }

@@ -159,7 +159,7 @@ fn try_loop(file: &[u8], seed: u64, tally: &mut [u64]) {
     let mut room = rooms::long_zeros();
     let mixed: &mut [u8] = &mut room;
     let mut own = seed;
-    trial_operations::sorts::put_mixed(file, &mut own, mixed);
+    trial_mixing::put_mixed(file, &mut own, mixed);
     put_loop(mixed, &mut own, rows_of(file));
     trial_operations::sorts::try_sort(first(mixed, file.len()), &mut own, tally);
 }
@@ -182,7 +182,7 @@ fn try_gates(seed: &mut u64, tally: &mut [u64]) {
     let mixed: &mut [u8] = &mut mixed_room;
     let own: &mut [u64] = &mut counts;
     let size = trial_netlists::netlists::put_netlist(file, seed, style_of(32200, 32256));
-    trial_operations::sorts::put_shuffled(first(file, size), seed, mixed);
+    trial_mixing::put_shuffled(first(file, size), seed, mixed);
     trial_operations::sorts::try_sort(first(mixed, size), seed, own);
     take_made(own, tally);
 }
@@ -373,7 +373,7 @@ fn run_lent(file: &[u8], choices: &[u8], inputs: &[u8], work_lent: usize, tally:
     let work: &mut [u8] = &mut works;
     let end = least(work_lent, work.len());
     let steps = STEPS as u32;
-    let answer = phasefold::run(file, steps, choices, inputs, shown, &mut work[0..end]);
+    let answer = run::run(file, steps, choices, inputs, shown, &mut work[0..end]);
     let right = run_again(file, choices, inputs, end, shown, work, tally);
     compare_runs(of_run(answer), right, tally);
 }
@@ -382,9 +382,9 @@ fn run_lent(file: &[u8], choices: &[u8], inputs: &[u8], work_lent: usize, tally:
 fn try_run(file: &[u8], work_lent: usize, seed: &mut u64, tally: &mut [u64]) {
     let mut lists = rooms::long_zeros();
     let values: &mut [u8] = &mut lists;
-    let unknown = trial_operations::runs::unknown_in(file);
+    let unknown = trial_runs::unknown_in(file);
     let each = count_kind(file, rows_of(file), 1);
-    let size = plus(unknown, trial_operations::runs::times(STEPS, each));
+    let size = plus(unknown, trial_runs::times(STEPS, each));
     put_values(values, seed, size);
     let given = first(values, size);
     run_lent(

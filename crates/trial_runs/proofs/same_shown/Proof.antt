@@ -2,8 +2,8 @@
 -- Assumes nothing.
 use Prim.Native.Nat.{_-_, _≤_}
 use borrow.Author.Needs.{needs}
-use Rattle.trial_operations.proofs.runs.same_shown.Statement.{statement}
-use Rattle.trial_operations.proofs.runs.same_shown.Tie as tie
+use Rattle.trial_runs.proofs.same_shown.Statement.{statement}
+use Rattle.trial_runs.proofs.same_shown.Tie as tie
 
 abbrev Inv-rows : tie.InvT-rows
 Inv-rows fold sizes map shown folded rows nodes at₀ at = at ≤ at

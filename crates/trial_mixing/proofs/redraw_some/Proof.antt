@@ -4,8 +4,8 @@ use Prim.Native.Nat.{_-_}
 use mathlib.Core.Path.{_≡_}
 use borrow.Author.Needs.{needs}
 use lib.ListN.{length}
-use Rattle.trial_operations.proofs.sorts.redraw_some.Statement.{statement}
-use Rattle.trial_operations.proofs.sorts.redraw_some.Tie as tie
+use Rattle.trial_mixing.proofs.redraw_some.Statement.{statement}
+use Rattle.trial_mixing.proofs.redraw_some.Tie as tie
 
 abbrev Inv-gates : tie.InvT-gates
 Inv-gates file₀ seed₀ nodes count i₀ file seed i = (length file ≡ length file₀)

@@ -4,8 +4,8 @@ use Prim.Native.Nat.{_-_}
 use mathlib.Core.Path.{_≡_}
 use borrow.Author.Needs.{needs}
 use lib.ListN.{length}
-use Rattle.trial_operations.proofs.runs.map_labels.Statement.{statement}
-use Rattle.trial_operations.proofs.runs.map_labels.Tie as tie
+use Rattle.trial_runs.proofs.map_labels.Statement.{statement}
+use Rattle.trial_runs.proofs.map_labels.Tie as tie
 
 abbrev Inv-rows : tie.InvT-rows
 Inv-rows file kind map₀ rows next₀ at₀ map next at = (length map ≡ length map₀)

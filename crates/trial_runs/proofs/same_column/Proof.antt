@@ -2,8 +2,8 @@
 -- Assumes nothing.
 use Prim.Native.Nat.{_-_, _≤_}
 use borrow.Author.Needs.{needs}
-use Rattle.trial_operations.proofs.runs.same_column.Statement.{statement}
-use Rattle.trial_operations.proofs.runs.same_column.Tie as tie
+use Rattle.trial_runs.proofs.same_column.Statement.{statement}
+use Rattle.trial_runs.proofs.same_column.Tie as tie
 
 abbrev Inv-groups : tie.InvT-groups
 Inv-groups sizes from shown row column folded groups g₀ g = g ≤ g

@@ -4,8 +4,8 @@ use Prim.Native.Nat.{_-_}
 use mathlib.Core.Path.{_≡_}
 use borrow.Author.Needs.{needs}
 use lib.ListN.{length}
-use Rattle.trial_operations.proofs.runs.fill_inputs.Statement.{statement}
-use Rattle.trial_operations.proofs.runs.fill_inputs.Tie as tie
+use Rattle.trial_runs.proofs.fill_inputs.Statement.{statement}
+use Rattle.trial_runs.proofs.fill_inputs.Tie as tie
 
 abbrev Inv-rows : tie.InvT-rows
 Inv-rows fold sizes map inputs given₀ rows column₀ at₀ given column at = (length given ≡ length given₀)

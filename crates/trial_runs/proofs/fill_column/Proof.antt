@@ -4,8 +4,8 @@ use Prim.Native.Nat.{_-_}
 use mathlib.Core.Path.{_≡_}
 use borrow.Author.Needs.{needs}
 use lib.ListN.{length}
-use Rattle.trial_operations.proofs.runs.fill_column.Statement.{statement}
-use Rattle.trial_operations.proofs.runs.fill_column.Tie as tie
+use Rattle.trial_runs.proofs.fill_column.Statement.{statement}
+use Rattle.trial_runs.proofs.fill_column.Tie as tie
 
 abbrev Inv-groups : tie.InvT-groups
 Inv-groups sizes from inputs row column given₀ groups g₀ given g = (length given ≡ length given₀)

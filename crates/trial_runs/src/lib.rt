@@ -14,7 +14,9 @@ use text::bytes::rest;
 use text::bytes::same;
 use trial_pieces::dice::put_values;
 use trial_pieces::dice::roll;
+use trial_pieces::pieces::get_word;
 use trial_pieces::pieces::plus;
+use trial_pieces::pieces::put_word;
 use trial_tally::rooms;
 use trial_tally::tally::add;
 use trial_tally::tally::hold;
@@ -61,16 +63,6 @@ fn groups_of(steps: usize, phases: usize) -> usize {
 }
 
 // ---- labels
-
-pub fn get_word(words: &[u16], at: usize) -> u16 {
-    if at < words.len() { words[at] } else { 0 }
-}
-
-pub fn put_word(words: &mut [u16], at: usize, value: u16) {
-    if at < words.len() {
-        words[at] = value;
-    }
-}
 
 fn label_in(row: Row) -> u16 {
     if row.kind == 1 { row.a } else { row.b }
@@ -222,7 +214,7 @@ fn run(file: &[u8], steps: usize, choices: &[u8], inputs: &[u8], shown: &mut [u8
     let work: &mut [u8] = &mut works;
     let end = least(work_for(rows_of(file)), work.len());
     let count = (steps % 65536) as u32;
-    let answer = phasefold::run(file, count, choices, inputs, shown, &mut work[0..end]);
+    let answer = run::run(file, count, choices, inputs, shown, &mut work[0..end]);
     match answer {
         RunAnswer::Done => true,
         RunAnswer::Refused(_) => false,

@@ -4,8 +4,8 @@ use Prim.Native.Nat.{_-_}
 use mathlib.Core.Path.{_≡_}
 use borrow.Author.Needs.{needs}
 use lib.ListN.{length}
-use Rattle.trial_operations.proofs.runs.fill_choices.Statement.{statement}
-use Rattle.trial_operations.proofs.runs.fill_choices.Tie as tie
+use Rattle.trial_runs.proofs.fill_choices.Statement.{statement}
+use Rattle.trial_runs.proofs.fill_choices.Tie as tie
 
 abbrev Inv-rows : tie.InvT-rows
 Inv-rows fold map choices given₀ rows place₀ at₀ given place at = (length given ≡ length given₀)

@@ -2,8 +2,8 @@
 -- Assumes nothing.
 use Prim.Native.Nat.{_-_, _≤_}
 use borrow.Author.Needs.{needs}
-use Rattle.trial_operations.proofs.runs.unknown_in.Statement.{statement}
-use Rattle.trial_operations.proofs.runs.unknown_in.Tie as tie
+use Rattle.trial_runs.proofs.unknown_in.Statement.{statement}
+use Rattle.trial_runs.proofs.unknown_in.Tie as tie
 
 abbrev Inv-rows : tie.InvT-rows
 Inv-rows file rows count₀ at₀ count at = at ≤ at

@@ -4,8 +4,8 @@ use Prim.Native.Nat.{_-_}
 use mathlib.Core.Path.{_≡_}
 use borrow.Author.Needs.{needs}
 use lib.ListN.{length}
-use Rattle.trial_operations.proofs.sorts.mix.Statement.{statement}
-use Rattle.trial_operations.proofs.sorts.mix.Tie as tie
+use Rattle.trial_mixing.proofs.mix.Statement.{statement}
+use Rattle.trial_mixing.proofs.mix.Tie as tie
 
 abbrev Inv-rows : tie.InvT-rows
 Inv-rows seed₀ nodes rows rarely numbers₀ at₀ seed numbers at = (length numbers ≡ length numbers₀)
