@@ -7,15 +7,13 @@ ghost use Rattle.ternary.specs.Ternary.{X};
 ghost use Rattle.netlist.specs.Limits.{mostPhases, mostOriginalRows, foldWorkBytes};
 ghost use Rattle.netlist.specs.Rows.{rowAt, input};
 ghost use Rattle.netlist.specs.FileFormat.{readFields, netlistOf};
-ghost use Rattle.netlist.specs.WellFormed.{FoldableRows};
 ghost use Rattle.abstraction.specs.GateMaking.{newRow};
 ghost use Rattle.abstraction.specs.Unrolling.{imageLiteral, registerImage, rowImage};
 ghost use Rattle.blockfile.specs.RowCode.{Small, ifKnown};
-ghost use Rattle.blockfile.specs.Ready.{Ready};
 ghost use Rattle.gates.specs.declared.MadeImage.the-variants.{Existing};
 ghost use Rattle.gates.specs.ImageCode.{imageCode};
 ghost use Rattle.fold_memory.specs.WorkMap.{knownIn};
-ghost use Rattle.row_images.specs.ImageMap.{imageOffset, imagesIn, noLiteral};
+ghost use Rattle.row_images.specs.ImageMap.{imageOffset, imagesIn, noLiteral, RowToFold};
 use blockfile::Fields;
 use fold_memory::KNOWN;
 use fold_memory::PHASE_BYTES;
@@ -114,7 +112,7 @@ fn register_image(work: &[u8], x: Fields, k: usize, i: usize) -> MadeImage
 
 // The image of row i in phase k, worked out; one that names no row if the kind is unknown.
 pub fn row_image(file: &[u8], work: &[u8], k: usize, i: usize) -> MadeImage
-    requires { ⌜ Ready FoldableRows (now file) (length (netlistOf (now file))) × (i < length (netlistOf (now file))) ⌝ }
+    requires { ⌜ RowToFold (now file) i ⌝ }
     requires { ⌜ (k < mostPhases) × (foldWorkBytes ≤ length (now work)) ⌝ }
     ensures { λ r. ⌜ r ≡ ifKnown (readFields (now (file .entry)) i .kind) (imageCode (rowImage (knownIn (now (work .entry)) i k) k (imagesIn (now (work .entry)) (k - 1) (length (netlistOf (now (file .entry))))) (imagesIn (now (work .entry)) k i) (rowAt (netlistOf (now (file .entry))) i))) (Existing noLiteral) ⌝ }
 {

@@ -29,7 +29,7 @@ use Rattle.gates.specs.declared.MadeImage.{MadeImage}
 use Rattle.gates.specs.declared.MadeImage.the-variants.{Existing, NewRow}
 use Rattle.gates.specs.ImageCode.{imageCode, madeFields}
 use Rattle.fold_memory.specs.WorkMap.{knownOffset, knownIn}
-use Rattle.row_images.specs.ImageMap.{imageOffset, imagesIn, noLiteral}
+use Rattle.row_images.specs.ImageMap.{imageOffset, imagesIn, noLiteral, RowToFold}
 use Rattle.unrolling.specs.UnrollMap.{Room, imagesEnd, literalMade, ImageStored, Stored, unrolledTo, UnderWay}
 use Rattle.row_images.proofs.ImageLaws.{images-kept, images-more}
 use Rattle.unrolling.proofs.UnrollFacts.{image-first, made-few}
@@ -101,6 +101,10 @@ module _ (clock : ℕ → ℕ → Ternary) (rows : List Row) (k i : ℕ) (result
         stored = stored-more (unrolledTo clock rows k i) y k i m r result work result′ work′ R kb (omega arith) mb J (U .stored);
         earlier = λ j l. images-kept work work′ (imageOffset k i) j (length rows) (literal-frame image m (imageOffset k i) r result work result′ work′ I .before) (omega arith) ∙ U .earlier j l;
       }
+
+-- Of a row of an accepted file the image can be made.
+pub row-ready : (f : List ℕ) (i : ℕ) → Ready FoldableRows f (length (netlistOf f)) → i < length (netlistOf f) → RowToFold f i
+row-ready f i O h = record { file = O .file; small = O .rows .small; within = h; next = O .rows .checked .nexts i h; operands = O .rows .checked .operands i h }
 
 module _ (f : List ℕ) (k i m : ℕ) (result work : List ℕ) (O : Ready FoldableRows f (length (netlistOf f))) (ib : i < length (netlistOf f)) (kb : k < mostPhases) (U : UnderWay (knownIn work) (netlistOf f) k i result work m) where
   pub row-small : i < mostOriginalRows

@@ -1,4 +1,4 @@
--- `row_image` gives the model's image, kind by kind, and for a kind above 6 one that names no row. What a row's literals name is in range, since the file is accepted.
+-- `row_image` gives the model's image, kind by kind, and for a kind above 6 one that names no row. What its literals name is in range, as the contract asks.
 -- Assumes nothing.
 use borrow.Author.Needs.{needs}
 use Rattle.row_images.proofs.ImageWays.{row-few, row-inside, next-fits, and-first-fits, and-second-fits, xor-first-fits, xor-second-fits, mux-first-fits, mux-second-fits, mux-third-fits, output-fits, image-constant, image-input, image-register, image-and, image-xor, image-mux, image-output, image-unknown}
