@@ -14,7 +14,7 @@ use Rattle.memory.specs.Fields.{IsBytes, byteAt, u32At, u16Bytes, u32Bytes}
 use Rattle.memory.proofs.TestLaws.{cond-case}
 use Rattle.memory.proofs.ListLaws.{join-length, join-at, tabulate-length, tabulate-at}
 use Rattle.memory.proofs.FieldLaws.{u16-small, u16-read, u16-write, u32-read, bytes-cons, bytes-append, bytes-join, bytes-zeros, u16-is-bytes, u32-is-bytes}
-use Rattle.netlist.specs.Limits.{mostRows, mostPhases}
+use Rattle.netlist.specs.Limits.{mostPhases}
 use Rattle.netlist.specs.Rows.{Row, RowFields, encodeRow, decodeRow, rowFromFields, constant, rowAt, labelOf, input, register, andGate, xorGate, muxGate, output, phaseOf}
 use Rattle.netlist.specs.FileFormat.{lastMark, lowByte, highByte, wordSum, blockCount, blockAt, rowOffset, readFields, rowCount, fieldsOf, fieldsAt, netlistOf, fieldBytes, rowBytes, blockBody, checkWord, blockBytes, blockRows, blocksFor, fileOf}
 use Rattle.netlist.proofs.RowLaws.{decode-rows, kind-le}
@@ -59,7 +59,7 @@ block-size f B h = simp (length-take, length-drop) (omega arith)
 -- ---- a row
 
 -- A row whose operands name rows below j, its next value a row below n, and whose label and phase are in range.
-pub row-fits : (j n : ℕ) → j ≤ mostRows → n ≤ mostRows → (r : Row) → OperandsBelow j r → NextBelow n r → labelOf r < 2 ^ 16 → phaseOf r < mostPhases → FieldsFit (encodeRow r)
+pub row-fits : (j n : ℕ) → j ≤ 2 ^ 15 → n ≤ 2 ^ 15 → (r : Row) → OperandsBelow j r → NextBelow n r → labelOf r < 2 ^ 16 → phaseOf r < mostPhases → FieldsFit (encodeRow r)
 row-fits j n h k constant b c l p = record { a-fits = omega arith; b-fits = omega arith; c-fits = omega arith }
 row-fits j n h k (input _ _) b c l p = record { a-fits = l; b-fits = omega (arith, p); c-fits = omega arith }
 row-fits j n h k (register _ _ _) b c l p = record { a-fits = omega (arith, c); b-fits = l; c-fits = omega arith }

@@ -73,6 +73,7 @@ unfolding fileRefusalWith oldRefusalWith
 old-files = record {
   asked-alike = λ operand f h.
       rw (length-alike f h, items-cong (blockCount f) (λ B. blockQuestions (blockCount f) B (blockAt f B)) (λ B. oldBlockQuestions (blockCount f) B (blockAt f B)) (λ B l. block-alike B (omega arith) (blockCount f) (blockAt f B)));
+  written-alike = file-alike;
   read-alike = λ rows few w. ap netlistOf (sym (file-alike rows few)) ∙ writable-read rows w;
   work-alike = λ operand f h q. rw (le-leb (length (netlistOf f)) smallFileRows (few-rows operand f h q));
 }

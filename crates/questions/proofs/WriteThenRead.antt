@@ -82,7 +82,7 @@ module _ (rows : List Row) (w : Writable rows) where
   some-rows = omega (arith, checked .has-output .4)
 
   fits : EachRow (λ r. FieldsFit (encodeRow r)) rows
-  fits i h = row-fits i (length rows) (omega (arith, w .few)) (w .few) (rowAt rows i) (checked .operands i h) (checked .nexts i h) (w .labels i h) (checked .phases i h)
+  fits i h = row-fits i (length rows) (omega (arith, w .few)) (omega (arith, w .few)) (rowAt rows i) (checked .operands i h) (checked .nexts i h) (w .labels i h) (checked .phases i h)
 
   pub writable-read : netlistOf (fileOf rows) ≡ rows
   writable-read = read-back rows fits

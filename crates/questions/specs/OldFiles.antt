@@ -12,7 +12,7 @@ use Rattle.memory.specs.Lists.{joinBelow}
 use Rattle.memory.specs.Fields.{byteAt, u32Bytes}
 use Rattle.netlist.specs.Limits.{rowWorkBytes}
 use Rattle.netlist.specs.Rows.{Row, rowAt}
-use Rattle.netlist.specs.FileFormat.{lastMark, blockCount, blockAt, fieldsOf, netlistOf, rowBytes, checkWord, blockRows, blocksFor}
+use Rattle.netlist.specs.FileFormat.{lastMark, blockCount, blockAt, fieldsOf, netlistOf, rowBytes, checkWord, blockRows, blocksFor, fileOf}
 use Rattle.questions.specs.Questions.{Refusal, noRefusal, firstRefusal, question, itemQuestions, sumRight, countRight, unusedRight, rowsRefusal, fileRefusalWith}
 use Rattle.questions.specs.RoundTrips.{Writable}
 
@@ -41,7 +41,8 @@ oldFileOf rs =
 pub record OldFiles : Type 0 where
   -- It is accepted, or refused with the number and the place, as it was, whatever a gate's operands may name: by Check's rule and by Sort's.
   pub asked-alike : (operand : List Row → ℕ → ℕ → Bool) (file : List ℕ) → length file ≤ 65536 → fileRefusalWith operand file ≡ oldRefusalWith operand file
-  -- The file that was written of a netlist is read as its rows.
+  -- The file of a netlist is, byte for byte, the one that was written of it, and is read as its rows.
+  pub written-alike : (rows : List Row) → length rows ≤ 8064 → fileOf rows ≡ oldFileOf rows
   pub read-alike : (rows : List Row) → length rows ≤ 8064 → Writable rows → netlistOf (oldFileOf rows) ≡ rows
   -- Run and Sort ask for the work that they asked for.
   pub work-alike : (operand : List Row → ℕ → ℕ → Bool) (file : List ℕ) → length file ≤ 65536 → fileRefusalWith operand file ≡ noRefusal → rowWorkBytes (length (netlistOf file)) ≡ 16384
