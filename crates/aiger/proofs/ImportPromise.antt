@@ -14,7 +14,7 @@ use Rattle.questions.proofs.QuestionLaws.{all-none, number-none, question-none}
 use Rattle.questions.proofs.WriteThenRead.{writable-read, writable-accepted, writable-bytes}
 use Rattle.ordering.specs.GateOrder.{sortedNetlist}
 use Rattle.ordering.specs.SortQuestions.{loopRefusal}
-use Rattle.ordering.proofs.PlacingLaws.{order-is}
+use Rattle.ordering.proofs.PlacingLaws.{order-is, order-low}
 use Rattle.ordering.proofs.LoopLaws.{passes-zero}
 use Rattle.ordering.proofs.InOrder.{sorted-rows}
 use Rattle.ordering.proofs.SortPromise.{sorted-writable}
@@ -73,6 +73,7 @@ import-guarantee text result work h =
       says = T;
       rows = e;
       ordered = rw e O;
+      lowest = order-low (textRows text);
       count = rw e (sorted-rows rows O);
       few = rw e (w .few);
       bytes = rw e (writable-bytes (sortedNetlist rows) w);

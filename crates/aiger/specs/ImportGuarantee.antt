@@ -9,7 +9,7 @@ use Rattle.memory.specs.Fields.{IsBytes}
 use Rattle.netlist.specs.Limits.{mostRows}
 use Rattle.netlist.specs.FileFormat.{netlistOf, fileOf}
 use Rattle.questions.specs.Questions.{noRefusal, fileRefusal}
-use Rattle.ordering.specs.GateOrder.{gateOrder, sortedNetlist, IsGateOrder}
+use Rattle.ordering.specs.GateOrder.{gateOrder, sortedNetlist, IsGateOrder, Lowest}
 use Rattle.aiger.specs.AigerText.{Aiger, IsTextOf}
 use Rattle.aiger.specs.AigerRows.{aigerRows, textRows}
 use Rattle.aiger.specs.AigerRun.{ImportKeeps}
@@ -19,8 +19,9 @@ pub record ImportGuarantee (text : List ℕ) : Type 0 where
   pub aiger : Aiger
   pub says : IsTextOf text aiger
   pub rows : textRows text ≡ aigerRows aiger
-  -- the gates' order is one, and the sorted netlist has as many rows
+  -- the gates' order is one, always the lowest gate first, and the sorted netlist has as many rows
   pub ordered : IsGateOrder (textRows text) (gateOrder (textRows text))
+  pub lowest : Lowest (textRows text) (gateOrder (textRows text))
   pub count : length (sortedNetlist (textRows text)) ≡ length (textRows text)
   pub few : length (sortedNetlist (textRows text)) ≤ mostRows
   -- its file is one of bytes that Check accepts, and is read as the sorted netlist

@@ -20,7 +20,7 @@ use Rattle.netlist.specs.WellFormed.{OperandsBelow, Ordered, NamesNode, OnLiter
 use Rattle.netlist.specs.WellFormed.{EachBelow}
 use Rattle.ordering.specs.GateOrder.{isGate, isSource, isIn, isReady, lowestReady, placedGates, gateOrder, rowsThat, sortedOrder, newNumber, renumberBy, sortedNetlist, IsGateOrder}
 use Rattle.ordering.specs.SortGuarantee.{SourcesFirst}
-use Rattle.ordering.proofs.PlacingLaws.{in-of, in-is, among-at, at-of, ready-words, ready-of, countBelow, count-le, Done}
+use Rattle.ordering.proofs.PlacingLaws.{in-of, in-is, among-at, at-of, ready-iff, countBelow, count-le, Done}
 use Rattle.ordering.proofs.OrderLaws.{number-at, below, below-is, below-in, order-once, order-inside, order-every, number-lt, sorted-at, sorted-length, among-append}
 
 -- ---- as many places as rows
@@ -139,11 +139,11 @@ module _ (rows : List Row) where
 
     past-not : (m j : ℕ) → j < m → isReady rows (gates m) j ≡ false
     past-not m j l = fails (isReady rows (gates m) j) (λ h.
-        let R = ready-words rows (gates m) j h in
+        let R = ready-iff rows (gates m) j .0 h in
         absurd (false≢true (sym (R .unplaced) ∙ in-of j (gates m) (below-in rows isGate m j l (R .gate)))))
 
     next-ready : (m : ℕ) → m < length rows → isGate (rowAt rows m) ≡ true → isReady rows (gates m) m ≡ true
-    next-ready m l g = ready-of rows (gates m) m (record {
+    next-ready m l g = ready-iff rows (gates m) m .1 (record {
       gate = g;
       unplaced = fails (isIn m (gates m)) (λ e. absurd (let r = below-is rows isGate m m (in-is m (gates m) e) in omega (arith, r .0)));
       settled = λ j a h. below-in rows isGate m j (below-at m (faninNodes (rowAt rows m)) (fanin-below m (rowAt rows m) g (ordered m l)) j a) h;

@@ -1,4 +1,4 @@
--- Question 22 in plain words: it is passed exactly if an order exists; its place is the lowest gate that is not grounded.
+-- Question 22 in plain words: it is passed exactly if an order exists; its place is the lowest gate that is not grounded, one in a loop of gates or behind one.
 -- Assumes nothing.
 use Prim.Native.Nat.{ℕ, _<_}
 use mathlib.Core.Path.{_≡_, refl, sym, ap, _∙_}
@@ -19,6 +19,7 @@ use Rattle.ordering.specs.GateOrder.{isGate, isIn, gateOrder, Grounded}
 use Rattle.ordering.specs.SortQuestions.{loopQuestion, loopRefusal}
 use Rattle.ordering.specs.SortGuarantee.{LoopWords}
 use Rattle.ordering.proofs.PlacingLaws.{grounded-in, in-grounded, order-grounded, order-is}
+use Rattle.ordering.proofs.LoopMeaning.{never-grounded}
 
 module _ (rows : List Row) where
   -- Row i is asked and passes: it is no gate, or it is grounded.
@@ -107,6 +108,7 @@ module _ (rows : List Row) where
     passed = (λ h. (gateOrder rows, order-is rows (passes-all h)), λ o. all-passes (λ i l g. grounded-in rows i g (order-grounded rows (o .0) (o .1) i g)));
     number = number-is;
     place = λ i l. (place-to i l, place-of i l);
+    means = never-grounded rows;
   }
 
 -- 22 asked last: with number 0 it has place 0.

@@ -137,6 +137,11 @@ module _ (rows : List Row) where
     gates-are : (i : ℕ) → Among i G → (i < length rows) × (isGate (rowAt rows i) ≡ true)
     gates-are i a = let r = at-of i G a in subst (λ (z : ℕ). (z < length rows) × (isGate (rowAt rows z) ≡ true)) (r .2) (O .only (r .0) (r .1))
 
+    -- The gates stand behind the sources.
+    gate-at : (x : ℕ) → x < length G → getD (sortedOrder rows) (length A + x) 0 ≡ getD G x 0
+    unfolding sortedOrder
+    gate-at x h = List·getD-append (A ++ G) Z 0 (length A + x) (omega (arith, length-append A G)) ∙ getD-append-add A G x 0
+
     pub order-once : Once (sortedOrder rows)
     unfolding sortedOrder
     order-once =
@@ -158,10 +163,7 @@ module _ (rows : List Row) where
     -- The gate at place x of the gates.
     pub gate-place : (x : ℕ) → x < length G → newNumber (sortedOrder rows) (getD G x 0) ≡ length A + x
     unfolding sortedOrder
-    gate-place x h =
-        let q = length-append A G in
-        let e : getD (sortedOrder rows) (length A + x) 0 ≡ getD G x 0 = List·getD-append (A ++ G) Z 0 (length A + x) (omega (arith, q)) ∙ getD-append-add A G x 0 in
-        ap (newNumber (sortedOrder rows)) (sym e) ∙ number-at (sortedOrder rows) order-once (length A + x) (omega (arith, h, q, length-append (A ++ G) Z))
+    gate-place x h = ap (newNumber (sortedOrder rows)) (sym (gate-at x h)) ∙ number-at (sortedOrder rows) order-once (length A + x) (omega (arith, h, length-append A G, length-append (A ++ G) Z))
 
     pub gate-in : (i : ℕ) → Among i G → Among i (sortedOrder rows) × (newNumber (sortedOrder rows) i < length A + length G)
     unfolding sortedOrder

@@ -1,8 +1,8 @@
--- Which gates are placed: exactly those that are grounded; and an order exists exactly if all are.
+-- Which gates are placed, and when: exactly those that are grounded, always the lowest one that can be; and an order exists exactly if all are.
 -- Assumes nothing.
 use Prim.Native.Nat.{ℕ, zero, suc, _+_, _<_, _≤_}
 use mathlib.Core.Path.{_≡_, refl, sym, ap, _∙_, subst}
-use mathlib.Core.Logic.{_⊎_, inl, inr}
+use mathlib.Core.Logic.{_↔_, _⊎_, inl, inr}
 use mathlib.Core.Bool.{Bool, true, false, cond, not, _&&_, _||_, false≢true}
 use mathlib.Core.List.{List, [], _∷_, _++_}
 use native.Mathlib.Omega.{arith}
@@ -15,7 +15,7 @@ use Rattle.memory.proofs.TestLaws.{or-case, and-true, not-both, fails, passes, 
 use Rattle.memory.proofs.ListLaws.{first-is}
 use Rattle.memory.specs.Lists.{allOf, Among, here, there}
 use Rattle.netlist.specs.Rows.{Row, constant, rowAt, faninNodes}
-use Rattle.ordering.specs.GateOrder.{isGate, isIn, isReady, lowestReady, placedGates, gateOrder, Grounded, grounded, IsGateOrder}
+use Rattle.ordering.specs.GateOrder.{isGate, isIn, isReady, lowestReady, placedGates, gateOrder, Grounded, grounded, StandsBefore, IsGateOrder, Lowest}
 
 -- ---- lists
 
@@ -93,7 +93,7 @@ unfolding countBelow
 count-mono zero f g h = omega arith
 count-mono (suc n) f g h = omega (arith, count-mono n f g (λ j l. h j (omega arith)), one-mono (f n) (g n) (h n (omega arith)))
 
-count-less : (n : ℕ) (f g : ℕ → Bool) → ((j : ℕ) → j < n → f j ≡ true → g j ≡ true) → (i : ℕ) → i < n → f i ≡ false → g i ≡ true → countBelow n f < countBelow n g
+pub count-less : (n : ℕ) (f g : ℕ → Bool) → ((j : ℕ) → j < n → f j ≡ true → g j ≡ true) → (i : ℕ) → i < n → f i ≡ false → g i ≡ true → countBelow n f < countBelow n g
 unfolding countBelow
 count-less zero f g h i l a b = absurd (omega arith)
 count-less (suc n) f g h i l a b =
@@ -115,37 +115,138 @@ module _ (rows : List Row) where
   waits : List ℕ → ℕ → Bool
   waits placed j = not (isGate (rowAt rows j)) || isIn j placed
 
-  pub ready-words : (placed : List ℕ) (i : ℕ) → isReady rows placed i ≡ true → ReadyWords placed i
+  pub ready-iff : (placed : List ℕ) (i : ℕ) → (isReady rows placed i ≡ true) ↔ ReadyWords placed i
   unfolding waits
-  ready-words placed i h =
-      let p = and-true (isGate (rowAt rows i) && not (isIn i placed)) _ h in
-      let q = and-true (isGate (rowAt rows i)) _ (p .0) in
-      record {
-        gate = q .0;
-        unplaced = not-true (isIn i placed) (q .1);
-        settled = λ j a g. or-case (not (isGate (rowAt rows j))) (isIn j placed) (all-at (waits placed) (faninNodes (rowAt rows i)) (p .1) j a) (λ n. absurd (not-both (isGate (rowAt rows j)) n g)) (in-is j placed);
-      }
-
-  pub ready-of : (placed : List ℕ) (i : ℕ) → ReadyWords placed i → isReady rows placed i ≡ true
-  unfolding waits
-  ready-of placed i R = rw (R .gate, R .unplaced, all-of (waits placed) (faninNodes (rowAt rows i)) settled)
+  ready-iff placed i = (words, tested)
     where
-      settled : (j : ℕ) → Among j (faninNodes (rowAt rows i)) → waits placed j ≡ true
-      settled j a = go (isGate (rowAt rows j)) refl
+      words : isReady rows placed i ≡ true → ReadyWords placed i
+      words h =
+          let p = and-true (isGate (rowAt rows i) && not (isIn i placed)) _ h in
+          let q = and-true (isGate (rowAt rows i)) _ (p .0) in
+          record {
+            gate = q .0;
+            unplaced = not-true (isIn i placed) (q .1);
+            settled = λ j a g. or-case (not (isGate (rowAt rows j))) (isIn j placed) (all-at (waits placed) (faninNodes (rowAt rows i)) (p .1) j a) (λ n. absurd (not-both (isGate (rowAt rows j)) n g)) (in-is j placed);
+          }
+
+      settled : ReadyWords placed i → (j : ℕ) → Among j (faninNodes (rowAt rows i)) → waits placed j ≡ true
+      settled R j a = go (isGate (rowAt rows j)) refl
         where
           go : (t : Bool) → isGate (rowAt rows j) ≡ t → not t || isIn j placed ≡ true
           go true e = in-of j placed (R .settled j a e)
           go false e = refl
 
-  -- ---- the placed gates are grounded
+      tested : ReadyWords placed i → isReady rows placed i ≡ true
+      tested R = rw (R .gate, R .unplaced, all-of (waits placed) (faninNodes (rowAt rows i)) (settled R))
+
+  -- ---- the lowest gate that is ready
+
+  -- No gate below it is ready.
+  pub lowest-least : (placed : List ℕ) (i : ℕ) → i < lowestReady rows placed → isReady rows placed i ≡ false
+  unfolding lowestReady
+  lowest-least placed i h = first-is 0 (length rows) (isReady rows placed) .before i (omega arith) h
 
   pub lowest-ready : (placed : List ℕ) → lowestReady rows placed < length rows → ReadyWords placed (lowestReady rows placed)
   unfolding lowestReady
-  lowest-ready placed h = ready-words placed _ (first-is 0 (length rows) (isReady rows placed) .holds (omega arith))
+  lowest-ready placed h = ready-iff placed _ .0 (first-is 0 (length rows) (isReady rows placed) .holds (omega arith))
 
   pub none-ready : (placed : List ℕ) → length rows ≤ lowestReady rows placed → (i : ℕ) → i < length rows → isReady rows placed i ≡ false
-  unfolding lowestReady
-  none-ready placed h i l = first-is 0 (length rows) (isReady rows placed) .before i (omega arith) (omega arith)
+  none-ready placed h i l = lowest-least placed i (omega arith)
+
+  -- ---- what is placed stands in an order, and was the lowest that could be placed
+
+  pub record PlacedWell (p : List ℕ) : Type 0 where
+    pub only : (x : ℕ) → x < length p → (getD p x 0 < length rows) × (isGate (rowAt rows (getD p x 0)) ≡ true)
+    pub once : (x y : ℕ) → x < length p → y < length p → getD p x 0 ≡ getD p y 0 → x ≡ y
+    pub after : (y j : ℕ) → y < length p → Among j (faninNodes (rowAt rows (getD p y 0))) → isGate (rowAt rows j) ≡ true → StandsBefore p y j
+
+  -- Gate m is placed after those in p.
+  module _ (p : List ℕ) (m : ℕ) where
+    abbrev more : List ℕ
+    more = p ++ (m ∷ [])
+
+    size : length more ≡ suc (length p)
+    size = omega (arith, length-append p (m ∷ []))
+
+    old : (x : ℕ) → x < length p → getD more x 0 ≡ getD p x 0
+    old x h = List·getD-append p (m ∷ []) 0 x h
+
+    new : getD more (length p) 0 ≡ m
+    new = getD-at p m [] 0 (length p) refl
+
+    well-more : m < length rows → ReadyWords p m → PlacedWell p → PlacedWell more
+    well-more l R W = record { only = only; once = once; after = after }
+      where
+        unseen : (x : ℕ) → x < length p → getD p x 0 ≡ m → ⊥
+        unseen x h e = false≢true (sym (R .unplaced) ∙ in-of m p (subst (λ (z : ℕ). Among z p) e (among-at x p h)))
+
+        only : (x : ℕ) → x < length more → (getD more x 0 < length rows) × (isGate (rowAt rows (getD more x 0)) ≡ true)
+        only x h = last-or x (length p) (omega (arith, size)) (λ k. rw (old x k) (W .only x k)) (λ e. rw (e, new) (l, R .gate))
+
+        once : (x y : ℕ) → x < length more → y < length more → getD more x 0 ≡ getD more y 0 → x ≡ y
+        once x y h k e =
+            last-or x (length p) (omega (arith, size))
+            (λ a. last-or y (length p) (omega (arith, size))
+            (λ b. W .once x y a b (sym (old x a) ∙ e ∙ old y b))
+            (λ b. absurd (unseen x a (sym (old x a) ∙ e ∙ ap (λ (z : ℕ). getD more z 0) b ∙ new))))
+            (λ a. last-or y (length p) (omega (arith, size))
+            (λ b. absurd (unseen y b (sym (old y b) ∙ sym e ∙ ap (λ (z : ℕ). getD more z 0) a ∙ new)))
+            (λ b. a ∙ sym b))
+
+        after : (y j : ℕ) → y < length more → Among j (faninNodes (rowAt rows (getD more y 0))) → isGate (rowAt rows j) ≡ true → StandsBefore more y j
+        after y j h a g =
+            last-or y (length p) (omega (arith, size))
+            (λ k.
+            let r = W .after y j k (rw (old y k) at a) g in
+            (r .0, r .1, old (r .0) (omega (arith, r .1)) ∙ r .2))
+            (λ e.
+            let r = at-of j p (R .settled j (rw (e, new) at a) g) in
+            (r .0, omega (arith, r .1, e), old (r .0) (r .1) ∙ r .2))
+
+    low-more : ((i : ℕ) → i < m → isReady rows p i ≡ false) → Lowest rows p → Lowest rows more
+    low-more least W y i h g unplaced settled = last-or y (length p) (omega (arith, size)) before last
+      where
+        before : y < length p → getD more y 0 ≤ i
+        before k = rw (old y k) (W y i k g (λ s. unplaced (s .0, s .1, old (s .0) (omega (arith, s .1)) ∙ s .2)) (λ j a d. let r = settled j a d in (r .0, r .1, sym (old (r .0) (omega (arith, r .1))) ∙ r .2)))
+
+        ready : y ≡ length p → isReady rows p i ≡ true
+        ready e = ready-iff p i .1 (record {
+          gate = g;
+          unplaced = fails (isIn i p) (λ k. let r = at-of i p (in-is i p k) in unplaced (r .0, omega (arith, r .1, e), old (r .0) (r .1) ∙ r .2));
+          settled = λ j a d. let r = settled j a d in subst (λ (z : ℕ). Among z p) (sym (old (r .0) (omega (arith, r .1, e))) ∙ r .2) (among-at (r .0) p (omega (arith, r .1, e)));
+        })
+
+        last : y ≡ length p → getD more y 0 ≤ i
+        last e = rw (e, new) (elim (decLt i m) [
+          | yes b ↦ absurd (false≢true (sym (least i b) ∙ ready e))
+          | no b ↦ omega arith
+        ])
+
+  pub placed-well : (k : ℕ) → PlacedWell (placedGates rows k)
+  unfolding placedGates
+  placed-well zero = record { only = λ x h. absurd (omega arith); once = λ x y h k e. absurd (omega arith); after = λ y j h a g. absurd (omega arith) }
+  placed-well (suc k) = go (ltb (lowestReady rows p) (length rows)) refl (placed-well k)
+    where
+      p : List ℕ
+      p = placedGates rows k
+
+      go : (t : Bool) → ltb (lowestReady rows p) (length rows) ≡ t → PlacedWell p → PlacedWell (cond t (p ++ (lowestReady rows p ∷ [])) p)
+      go false e W = W
+      go true e W = let l = ltb-true _ _ e in well-more p (lowestReady rows p) l (lowest-ready p l) W
+
+  placed-low : (k : ℕ) → Lowest rows (placedGates rows k)
+  unfolding placedGates
+  placed-low zero = λ y i h g n s. absurd (omega arith)
+  placed-low (suc k) = go (ltb (lowestReady rows p) (length rows)) (placed-low k)
+    where
+      p : List ℕ
+      p = placedGates rows k
+
+      go : (t : Bool) → Lowest rows p → Lowest rows (cond t (p ++ (lowestReady rows p ∷ [])) p)
+      go false W = W
+      go true W = low-more p (lowestReady rows p) (lowest-least p) W
+
+  -- ---- the placed gates are grounded
 
   pub placed-grounded : (k i : ℕ) → Among i (placedGates rows k) → Grounded rows i
   unfolding placedGates
@@ -167,7 +268,7 @@ module _ (rows : List Row) where
   pub grounded-placed : (placed : List ℕ) → ((i : ℕ) → i < length rows → isReady rows placed i ≡ false) → ((j : ℕ) → isGate (rowAt rows j) ≡ true → j < length rows) → (i : ℕ) → Grounded rows i → isGate (rowAt rows i) ≡ true → Among i placed
   grounded-placed placed none inside i (grounded i′ f) g =
       in-is i′ placed (passes (isIn i′ placed) (λ n.
-      false≢true (sym (none i′ (inside i′ g)) ∙ ready-of placed i′ (record { gate = g; unplaced = n; settled = λ j a h. grounded-placed placed none inside j (f j a h) h }))))
+      false≢true (sym (none i′ (inside i′ g)) ∙ ready-iff placed i′ .1 (record { gate = g; unplaced = n; settled = λ j a h. grounded-placed placed none inside j (f j a h) h }))))
 
   -- ---- after as many rounds as there are rows none is ready
 
@@ -206,7 +307,7 @@ module _ (rows : List Row) where
           let l = ltb-true _ _ e in
           let R = lowest-ready p l in
           elim ih [
-            | inl d ↦ absurd (false≢true (sym (d _ l) ∙ ready-of p _ R))
+            | inl d ↦ absurd (false≢true (sym (d _ l) ∙ ready-iff p _ .1 R))
             | inr b ↦ inr (let c = count-less (length rows) (left (p ++ (lowestReady rows p ∷ []))) (left p) (λ j _ h. left-less p _ j h) (lowestReady rows p) l (left-not p _) (left-yes p _ (R .gate) (R .unplaced)) in omega arith)
           ]
 
@@ -215,74 +316,18 @@ module _ (rows : List Row) where
   order-done = elim (rounds (length rows)) [
     | inl d ↦ d
     | inr b ↦ (λ i l. fails (isReady rows (placedGates rows (length rows)) i) (λ h.
-        let R = ready-words (placedGates rows (length rows)) i h in
+        let R = ready-iff (placedGates rows (length rows)) i .0 h in
         let c = count-some (length rows) (left (placedGates rows (length rows))) i l (left-yes (placedGates rows (length rows)) i (R .gate) (R .unplaced)) in
         absurd (omega arith)))
   ]
 
-  -- ---- what is placed stands in an order
+  -- ---- the order, and which gates are in it
 
-  pub record PlacedWell (p : List ℕ) : Type 0 where
-    pub only : (x : ℕ) → x < length p → (getD p x 0 < length rows) × (isGate (rowAt rows (getD p x 0)) ≡ true)
-    pub once : (x y : ℕ) → x < length p → y < length p → getD p x 0 ≡ getD p y 0 → x ≡ y
-    pub after : (y j : ℕ) → y < length p → Among j (faninNodes (rowAt rows (getD p y 0))) → isGate (rowAt rows j) ≡ true → (x : ℕ) × (x < y) × (getD p x 0 ≡ j)
+  pub order-low : Lowest rows (gateOrder rows)
+  unfolding gateOrder
+  order-low = placed-low (length rows)
 
-  well-more : (p : List ℕ) (i : ℕ) → i < length rows → ReadyWords p i → PlacedWell p → PlacedWell (p ++ (i ∷ []))
-  well-more p i l R W = record { only = only; once = once; after = after }
-    where
-      q : List ℕ
-      q = p ++ (i ∷ [])
-
-      size : length q ≡ suc (length p)
-      size = omega (arith, length-append p (i ∷ []))
-
-      old : (x : ℕ) → x < length p → getD q x 0 ≡ getD p x 0
-      old x h = List·getD-append p (i ∷ []) 0 x h
-
-      new : getD q (length p) 0 ≡ i
-      new = getD-at p i [] 0 (length p) refl
-
-      unseen : (x : ℕ) → x < length p → getD p x 0 ≡ i → ⊥
-      unseen x h e = false≢true (sym (R .unplaced) ∙ in-of i p (subst (λ (z : ℕ). Among z p) e (among-at x p h)))
-
-      only : (x : ℕ) → x < length q → (getD q x 0 < length rows) × (isGate (rowAt rows (getD q x 0)) ≡ true)
-      only x h = last-or x (length p) (omega (arith, size)) (λ k. rw (old x k) (W .only x k)) (λ e. rw (e, new) (l, R .gate))
-
-      once : (x y : ℕ) → x < length q → y < length q → getD q x 0 ≡ getD q y 0 → x ≡ y
-      once x y h k e =
-          last-or x (length p) (omega (arith, size))
-          (λ a. last-or y (length p) (omega (arith, size))
-          (λ b. W .once x y a b (sym (old x a) ∙ e ∙ old y b))
-          (λ b. absurd (unseen x a (sym (old x a) ∙ e ∙ ap (λ (z : ℕ). getD q z 0) b ∙ new))))
-          (λ a. last-or y (length p) (omega (arith, size))
-          (λ b. absurd (unseen y b (sym (old y b) ∙ sym e ∙ ap (λ (z : ℕ). getD q z 0) a ∙ new)))
-          (λ b. a ∙ sym b))
-
-      after : (y j : ℕ) → y < length q → Among j (faninNodes (rowAt rows (getD q y 0))) → isGate (rowAt rows j) ≡ true → (x : ℕ) × (x < y) × (getD q x 0 ≡ j)
-      after y j h a g =
-          last-or y (length p) (omega (arith, size))
-          (λ k.
-          let r = W .after y j k (rw (old y k) at a) g in
-          (r .0, r .1, old (r .0) (omega (arith, r .1)) ∙ r .2))
-          (λ e.
-          let r = at-of j p (R .settled j (rw (e, new) at a) g) in
-          (r .0, omega (arith, r .1, e), old (r .0) (r .1) ∙ r .2))
-
-  pub placed-well : (k : ℕ) → PlacedWell (placedGates rows k)
-  unfolding placedGates
-  placed-well zero = record { only = λ x h. absurd (omega arith); once = λ x y h k e. absurd (omega arith); after = λ y j h a g. absurd (omega arith) }
-  placed-well (suc k) = go (ltb (lowestReady rows p) (length rows)) refl (placed-well k)
-    where
-      p : List ℕ
-      p = placedGates rows k
-
-      go : (t : Bool) → ltb (lowestReady rows p) (length rows) ≡ t → PlacedWell p → PlacedWell (cond t (p ++ (lowestReady rows p ∷ [])) p)
-      go false e W = W
-      go true e W = let l = ltb-true _ _ e in well-more p (lowestReady rows p) l (lowest-ready p l) W
-
-  -- ---- which gates are in the order
-
-  gate-inside : (j : ℕ) → isGate (rowAt rows j) ≡ true → j < length rows
+  pub gate-inside : (j : ℕ) → isGate (rowAt rows j) ≡ true → j < length rows
   gate-inside j g = elim (decLt j (length rows)) [
     | yes l ↦ l
     | no l ↦ absurd (false≢true (sym (ap isGate (List·getD-eq-default rows constant {n = j} (omega arith))) ∙ g))

@@ -8,7 +8,7 @@ use mathlib.Core.List.{List, [], _∷_, _++_}
 use native.Mathlib.Omega.{arith}
 use native.Mathlib.Decide.{decLt}
 use lib.Dec.{eqb, ltb}
-use lib.ListN.{length, getD, length-append, List·getD-append, List·getD-eq-default}
+use lib.ListN.{length, getD, length-append, List·getD-append}
 use Rattle.memory.specs.Lists.{Among}
 use Rattle.memory.specs.Fields.{IsBytes}
 use Rattle.memory.proofs.TestLaws.{fails}
@@ -18,21 +18,25 @@ use Rattle.netlist.specs.FileFormat.{netlistOf, fileOf}
 use Rattle.netlist.proofs.FileLaws.{file-length, file-labels}
 use Rattle.netlist.proofs.RowLaws.{named-alike, map-alike, reset-alike, same-names}
 use Rattle.netlist.specs.WellFormed.{OperandsBelow, ResetIn, NamesNode, OnLiterals, FileShape, UnorderedRows}
-use Rattle.questions.specs.Questions.{noRefusal, question, fileRefusal, unorderedRefusal, namesAnywhere, namesEarlier}
-use Rattle.questions.proofs.QuestionLaws.{all-none, number-none}
+use Rattle.questions.specs.Questions.{noRefusal, fileRefusal, unorderedRefusal, namesAnywhere, namesEarlier}
+use Rattle.questions.specs.RefusalWords.{ask, askedOfUnordered}
+use Rattle.questions.proofs.QuestionLaws.{number-none}
+use Rattle.questions.proofs.AskedLaws.{parts-yes, each-yes, all-yes-is}
+use Rattle.questions.proofs.RefusalMeaning.{unordered-refusal-means}
 use Rattle.questions.proofs.AcceptedFiles.{FileRight, file-right, rows-of-file, file-unordered, file-checked}
 use Rattle.questions.specs.RoundTrips.{Writable}
 use Rattle.questions.proofs.WriteThenRead.{writable-read, writable-accepted, writable-bytes}
 use Rattle.questions.proofs.ReadThenWrite.{write-read}
 use Rattle.questions.proofs.ShapePasses.{shape-passes}
 use Rattle.ordering.specs.GateOrder.{isGate, isSource, gateOrder, rowsThat, sortedOrder, newNumber, renumberBy, sortedNetlist, IsGateOrder}
-use Rattle.ordering.specs.SortQuestions.{sortMemoryRight, loopRefusal, sortRefusal}
+use Rattle.ordering.specs.SortQuestions.{sortRefusal}
+use Rattle.ordering.specs.SortRefusalWords.{LoopFree, askedBySort}
 use Rattle.ordering.specs.SortGuarantee.{SourcesFirst, SortGuarantee}
-use Rattle.ordering.proofs.PlacingLaws.{in-of, at-of, order-is}
-use Rattle.ordering.proofs.LoopLaws.{passes-zero}
+use Rattle.ordering.proofs.PlacingLaws.{in-of, at-of, gate-inside, grounded-in, order-is, order-low}
 use Rattle.ordering.proofs.OrderLaws.{kinds, below, below-in, order-once, number-at, number-lt, sorted-length, sorted-at, sorted-from, sorted-ordered, source-place, gate-place, gate-in, output-place}
 use Rattle.ordering.proofs.InOrder.{order-kept, sorted-rows, sorted-same}
 use Rattle.ordering.proofs.EquationLaws.{same-runs}
+use Rattle.ordering.proofs.SortRefusalMeaning.{sort-refusal-means}
 
 -- ---- renumbering keeps all but the literals
 
@@ -171,19 +175,12 @@ module _ (rows : List Row) (U : UnorderedRows rows) (O : IsGateOrder rows (gateO
   sorted-sources : SourcesFirst sorted
   sorted-sources x y h gx sy =
       let j = sorted-from rows O y h in
-      let hx = gate-lt sorted x gx in
-      let i = sorted-from rows O x hx in
+      let i = sorted-from rows O x (gate-inside sorted x gx) in
       let sj : isSource (rowAt rows (j .0)) ≡ true = sym (ap (λ (k : ℕ). ltb k 3) (keeps-kind g (rowAt rows (j .0)))) ∙ ap isSource (sym (sorted-at rows O (j .0) (j .1))) ∙ ap (λ (z : ℕ). isSource (rowAt sorted z)) (j .2) ∙ sy in
       let gi : isGate (rowAt rows (i .0)) ≡ true = sym (ap (λ (k : ℕ). ltb 2 k && ltb k 6) (keeps-kind g (rowAt rows (i .0)))) ∙ ap isGate (sym (sorted-at rows O (i .0) (i .1))) ∙ ap (λ (z : ℕ). isGate (rowAt sorted z)) (i .2) ∙ gx in
       let r = at-of (i .0) (gateOrder rows) (O .every (i .0) (i .1) gi) in
       let n : N (i .0) ≡ length (rowsThat rows isSource) + r .0 = ap N (sym (r .2)) ∙ gate-place rows O (r .0) (r .1) in
       omega (arith, source-place rows O (j .0) (j .1) sj .1, n, i .2, j .2)
-    where
-      gate-lt : (rs : List Row) (x : ℕ) → isGate (rowAt rs x) ≡ true → x < length rs
-      gate-lt rs x e = elim (decLt x (length rs)) [
-        | yes l ↦ l
-        | no l ↦ absurd (false≢true (sym (ap isGate (List·getD-eq-default rs constant {n = x} (omega arith))) ∙ e))
-      ]
 
   sorted-literals : (y : ℕ) → y < length sorted → OnLiterals (NamesNode sorted) (NamesNode sorted) (rowAt sorted y)
   sorted-literals = from (λ y r. OnLiterals (NamesNode sorted) (NamesNode sorted) r) (λ i l. literals-all g rows sorted names-node (rowAt rows i) (U .operands i l))
@@ -214,11 +211,13 @@ module _ (rows : List Row) (U : UnorderedRows rows) (O : IsGateOrder rows (gateO
 
 -- ---- from the file's bytes
 
-sort-right : (file : List ℕ) (result work : ℕ) → sortRefusal file result work ≡ noRefusal → FileRight namesAnywhere file × (loopRefusal (netlistOf file) .number ≡ 0)
-unfolding sortRefusal
+sort-right : (file : List ℕ) (result work : ℕ) → sortRefusal file result work ≡ noRefusal → FileRight namesAnywhere file × ((i : ℕ) → i < length (netlistOf file) → LoopFree (netlistOf file) i)
+unfolding askedBySort
 sort-right file result work h =
-    let q = all-none (unorderedRefusal file ∷ question 23 (sortMemoryRight file result work) ∷ loopRefusal (netlistOf file) ∷ []) (number-none (sortRefusal file result work) h) in
-    (file-right namesAnywhere file (q .0), q .1 .1 .0)
+    let rows = netlistOf file in
+    let y = parts-yes (askedOfUnordered file) _ (sort-refusal-means file result work .passed (number-none (sortRefusal file result work) h)) in
+    let u = all-yes-is (unorderedRefusal file) (askedOfUnordered file) (unordered-refusal-means file) (y .0) in
+    (file-right namesAnywhere file (number-none (unorderedRefusal file) u), λ i l. each-yes (length rows) (λ j. ask 22 j (LoopFree rows j) ∷ []) (y .1 .1) i l .0)
 
 pub sort-guarantee : (file : List ℕ) → IsBytes file → (result work : ℕ) → sortRefusal file result work ≡ noRefusal → SortGuarantee file
 sort-guarantee file bytes result work h =
@@ -226,11 +225,12 @@ sort-guarantee file bytes result work h =
     let F = R .0 in
     let rows = netlistOf file in
     let U = file-unordered file F in
-    let O = order-is rows (passes-zero rows (R .1)) in
+    let O = order-is rows (λ i l g. grounded-in rows i g (R .1 i l g)) in
     let n = rows-of-file namesAnywhere file F in
     let w = sorted-writable rows U O (n .1) (file-labels file bytes) in
     record {
       ordered = O;
+      lowest = order-low rows;
       rows = sorted-rows rows O;
       size = omega (arith, file-length (sortedNetlist rows), sorted-rows rows O, n .2, F .size .whole);
       bytes = writable-bytes (sortedNetlist rows) w;

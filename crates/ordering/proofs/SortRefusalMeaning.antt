@@ -1,6 +1,6 @@
 -- What a refusal of Sort means: it is the first no of what Sort asks. And what Check accepts is sorted.
 -- Assumes nothing.
-use Prim.Native.Nat.{ℕ}
+use Prim.Native.Nat.{ℕ, _<_}
 use mathlib.Core.Path.{_≡_, refl, sym, _∙_, subst}
 use mathlib.Core.Logic.{_↔_, inl}
 use mathlib.Core.Bool.{true, false≢true}
@@ -9,21 +9,21 @@ use lib.ListN.{length}
 use Rattle.memory.specs.Lists.{Among}
 use Rattle.memory.proofs.TestLaws.{leb-iff, and-iff}
 use Rattle.netlist.specs.Limits.{rowWorkBytes}
-use Rattle.netlist.specs.Rows.{Row}
+use Rattle.netlist.specs.Rows.{Row, rowAt}
 use Rattle.netlist.specs.FileFormat.{netlistOf}
 use Rattle.netlist.specs.WellFormed.{Ordered}
-use Rattle.questions.specs.Questions.{question, namesEarlier, fileRefusal, unorderedRefusal}
-use Rattle.questions.specs.RefusalWords.{ask, RefusalMeans}
-use Rattle.questions.proofs.QuestionLaws.{all-yes, _then_, number-none, question-of}
+use Rattle.questions.specs.Questions.{namesEarlier, fileRefusal}
+use Rattle.questions.specs.RefusalWords.{ask, askedOfUnordered, RefusalMeans}
+use Rattle.questions.proofs.QuestionLaws.{number-none}
 use Rattle.questions.proofs.AcceptedFiles.{file-right, file-checked, checked-unordered}
-use Rattle.questions.proofs.AskedLaws.{ItemMeans, once-means, items-means, then-means, last-means}
+use Rattle.questions.proofs.AskedLaws.{append-yes, join-yes, all-yes-is, ItemMeans, once-means, items-means, then-means, last-means}
 use Rattle.questions.proofs.RefusalMeaning.{unordered-refusal-means}
-use Rattle.ordering.specs.GateOrder.{isGate, gateOrder}
+use Rattle.ordering.specs.GateOrder.{isGate, isIn, gateOrder}
 use Rattle.ordering.specs.SortQuestions.{loopQuestion, loopRefusal, sortMemoryRight, sortRefusal}
 use Rattle.ordering.specs.SortRefusalWords.{SortRoom, LoopFree, askedBySort}
 use Rattle.ordering.specs.SortGuarantee.{CheckedSorts}
 use Rattle.ordering.proofs.PlacingLaws.{in-of, grounded-in, in-grounded}
-use Rattle.ordering.proofs.LoopLaws.{question-zero, question-fails, all-passes}
+use Rattle.ordering.proofs.LoopLaws.{question-zero, question-fails}
 use Rattle.ordering.proofs.OrderLaws.{below-in}
 use Rattle.ordering.proofs.InOrder.{order-kept}
 
@@ -45,16 +45,17 @@ sort-refusal-means file result work =
 
 -- A file that Check accepts passes Sort's questions: its gates name earlier nodes, and stand in an order.
 pub checked-sorts : (file : List ℕ) → CheckedSorts file
-unfolding sortRefusal
+unfolding askedBySort
 checked-sorts file h result work room =
-    all-yes (unorderedRefusal file ∷ question 23 (sortMemoryRight file result work) ∷ loopRefusal (netlistOf file) ∷ [])
-    (number-none _ (checked-unordered file h)
-    then question-of 23 _ room
-    then number-none _ (all-passes rows (λ i l g. in-of i (gateOrder rows) (subst (Among i) (sym (order-kept rows ordered)) (below-in rows isGate (length rows) i l g))))
-    then tt)
+    all-yes-is (sortRefusal file result work) (askedBySort file result work) (sort-refusal-means file result work)
+    (append-yes (askedOfUnordered file) _ (unordered-refusal-means file .passed (number-none _ (checked-unordered file h)))
+    (sortMemoryRight-iff file result work .0 room, join-yes (length rows) _ (λ i l. (λ g. in-grounded rows i (placed i l g), tt))))
   where
     rows : List Row
     rows = netlistOf file
 
     ordered : Ordered rows
     ordered = file-checked file (file-right namesEarlier file (number-none (fileRefusal file) h)) .operands
+
+    placed : (i : ℕ) → i < length rows → isGate (rowAt rows i) ≡ true → isIn i (gateOrder rows) ≡ true
+    placed i l g = in-of i (gateOrder rows) (subst (Among i) (sym (order-kept rows ordered)) (below-in rows isGate (length rows) i l g))

@@ -1,8 +1,8 @@
 -- Gates in any order, put into one that a file may have: the change requests, "gates in any order".
 -- The constant comes first, then inputs and registers in row order, then always the lowest-numbered gate whose gate operands are all placed, then the outputs in row order, with all literals renumbered.
--- Interface: isGate, gateOrder, sortedOrder, sortedNetlist; Grounded says which gates are placed, and IsGateOrder what an order is, in plain words.
+-- Interface: isGate, gateOrder, sortedOrder, sortedNetlist; in plain words, Grounded says which gates are placed, IsGateOrder what an order is, and Lowest which one is meant.
 -- Assumes nothing.
-use Prim.Native.Nat.{ℕ, zero, suc, _+_, _*_, _<_, _/_, _%_}
+use Prim.Native.Nat.{ℕ, zero, suc, _+_, _*_, _<_, _≤_, _/_, _%_}
 use mathlib.Core.Path.{_≡_}
 use mathlib.Core.Bool.{Bool, true, false, cond, not, _&&_, _||_}
 use mathlib.Core.List.{List, [], _∷_, _++_, map}
@@ -69,9 +69,22 @@ sortedNetlist rows = let order = sortedOrder rows in map (λ (i : ℕ). mapLiter
 pub data Grounded (rows : List Row) : ℕ → Type 0 where
   grounded : (i : ℕ) → ((j : ℕ) → Among j (faninNodes (rowAt rows i)) → isGate (rowAt rows j) ≡ true → Grounded rows j) → Grounded rows i
 
+-- In the list gate i stands before place y.
+abbrev pub StandsBefore : List ℕ → ℕ → ℕ → Type 0
+StandsBefore order y i = (x : ℕ) × (x < y) × (getD order x 0 ≡ i)
+
 -- The list has each gate once, and no other row, and each gate stands after the gates that it names.
 pub record IsGateOrder (rows : List Row) (order : List ℕ) : Type 0 where
   pub only : (x : ℕ) → x < length order → (getD order x 0 < length rows) × (isGate (rowAt rows (getD order x 0)) ≡ true)
   pub every : (i : ℕ) → i < length rows → isGate (rowAt rows i) ≡ true → Among i order
   pub once : (x y : ℕ) → x < length order → y < length order → getD order x 0 ≡ getD order y 0 → x ≡ y
-  pub after : (y j : ℕ) → y < length order → Among j (faninNodes (rowAt rows (getD order y 0))) → isGate (rowAt rows j) ≡ true → (x : ℕ) × (x < y) × (getD order x 0 ≡ j)
+  pub after : (y j : ℕ) → y < length order → Among j (faninNodes (rowAt rows (getD order y 0))) → isGate (rowAt rows j) ≡ true → StandsBefore order y j
+
+-- Always the lowest-numbered gate whose gate operands are all placed: the gate at place y has the smallest number of all gates that do not stand before y and whose gates do.
+abbrev pub Lowest : List Row → List ℕ → Type 0
+Lowest rows order =
+    (y i : ℕ) → y < length order
+    → isGate (rowAt rows i) ≡ true
+    → ¬ (StandsBefore order y i)
+    → ((j : ℕ) → Among j (faninNodes (rowAt rows i)) → isGate (rowAt rows j) ≡ true → StandsBefore order y j)
+    → getD order y 0 ≤ i

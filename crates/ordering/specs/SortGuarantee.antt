@@ -11,7 +11,8 @@ use Rattle.memory.specs.Fields.{IsBytes}
 use Rattle.netlist.specs.Rows.{Row, rowAt}
 use Rattle.netlist.specs.FileFormat.{netlistOf, fileOf}
 use Rattle.questions.specs.Questions.{noRefusal, fileRefusal}
-use Rattle.ordering.specs.GateOrder.{isGate, isSource, gateOrder, rowsThat, sortedNetlist, Grounded, IsGateOrder}
+use Rattle.ordering.specs.GateOrder.{isGate, isSource, gateOrder, rowsThat, sortedNetlist, Grounded, IsGateOrder, Lowest}
+use Rattle.ordering.specs.Loops.{LoopMeans}
 use Rattle.ordering.specs.Equations.{SameRuns}
 use Rattle.ordering.specs.SortQuestions.{loopRefusal, sortMemoryRight, sortRefusal}
 
@@ -21,8 +22,9 @@ SourcesFirst rows = (i j : ℕ) → j < length rows → isGate (rowAt rows i) �
 
 -- Of a file that is not refused.
 pub record SortGuarantee (file : List ℕ) : Type 0 where
-  -- the gates' order is one, and the sorted netlist has as many rows, in a file of the same length
+  -- the gates' order is one, always the lowest gate first, and the sorted netlist has as many rows, in a file of the same length
   pub ordered : IsGateOrder (netlistOf file) (gateOrder (netlistOf file))
+  pub lowest : Lowest (netlistOf file) (gateOrder (netlistOf file))
   pub rows : length (sortedNetlist (netlistOf file)) ≡ length (netlistOf file)
   pub size : length (fileOf (sortedNetlist (netlistOf file))) ≡ length file
   -- its file is one of bytes that Check accepts, and is read as the sorted netlist
@@ -41,8 +43,9 @@ pub record SortGuarantee (file : List ℕ) : Type 0 where
 abbrev pub CheckedSorts : List ℕ → Type 0
 CheckedSorts file = fileRefusal file ≡ noRefusal → (result work : ℕ) → sortMemoryRight file result work ≡ true → sortRefusal file result work ≡ noRefusal
 
--- Of any rows: 22 is passed exactly if an order exists, and otherwise its place is the lowest gate that is not grounded.
+-- Of any rows: 22 is passed exactly if an order exists, and otherwise its place is the lowest gate that is not grounded, which is one in a loop of gates or behind one.
 pub record LoopWords (rows : List Row) : Type 0 where
   pub passed : (loopRefusal rows ≡ noRefusal) ↔ ((order : List ℕ) × IsGateOrder rows order)
   pub number : (¬ (loopRefusal rows ≡ noRefusal)) → loopRefusal rows .number ≡ 22
   pub place : (i : ℕ) → i < length rows → (loopRefusal rows ≡ record { number = 22; place = i }) ↔ ((isGate (rowAt rows i) ≡ true) × ((¬ Grounded rows i) × ((j : ℕ) → j < i → isGate (rowAt rows j) ≡ true → Grounded rows j)))
+  pub means : LoopMeans rows

@@ -16,9 +16,13 @@ use Rattle.questions.specs.RefusalWords.{Asked, ask, AllYes, FirstNo, Re
 
 -- ---- lists of what is asked, one after the other, and for each item in turn
 
-append-yes : (xs ys : List Asked) → AllYes xs → AllYes ys → AllYes (xs ++ ys)
+pub append-yes : (xs ys : List Asked) → AllYes xs → AllYes ys → AllYes (xs ++ ys)
 append-yes [] ys a b = b
 append-yes (x ∷ xs) ys a b = (a .0, append-yes xs ys (a .1) b)
+
+pub parts-yes : (xs ys : List Asked) → AllYes (xs ++ ys) → AllYes xs × AllYes ys
+parts-yes [] ys a = (tt, a)
+parts-yes (x ∷ xs) ys a = let p = parts-yes xs ys (a .1) in ((a .0, p .0), p .1)
 
 append-no : (xs ys : List Asked) (n p : ℕ) → FirstNo xs n p → FirstNo (xs ++ ys) n p
 append-no [] ys n p h = absurd h
@@ -29,9 +33,15 @@ append-later : (xs ys : List Asked) (n p : ℕ) → AllYes xs → FirstNo ys n p
 append-later [] ys n p a h = h
 append-later (x ∷ xs) ys n p a h = inr (a .0, append-later xs ys n p (a .1) h)
 
-join-yes : (m : ℕ) (f : ℕ → List Asked) → ((i : ℕ) → i < m → AllYes (f i)) → AllYes (joinBelow m f)
+pub join-yes : (m : ℕ) (f : ℕ → List Asked) → ((i : ℕ) → i < m → AllYes (f i)) → AllYes (joinBelow m f)
 join-yes zero f h = tt
 join-yes (suc m) f h = append-yes (joinBelow m f) (f m) (join-yes m f (λ i l. h i (omega arith))) (h m (omega arith))
+
+pub each-yes : (m : ℕ) (f : ℕ → List Asked) → AllYes (joinBelow m f) → (i : ℕ) → i < m → AllYes (f i)
+each-yes zero f h i l = absurd (omega arith)
+each-yes (suc m) f h i l =
+    let p = parts-yes (joinBelow m f) (f m) h in
+    last-or i m l (λ b. each-yes m f (p .0) i b) (λ e. subst (λ (x : ℕ). AllYes (f x)) (sym e) (p .1))
 
 join-no : (m : ℕ) (f : ℕ → List Asked) (n p i : ℕ) → i < m → ((j : ℕ) → j < i → AllYes (f j)) → FirstNo (f i) n p → FirstNo (joinBelow m f) n p
 join-no zero f n p i l h k = absurd (omega arith)
