@@ -76,7 +76,12 @@ module _ (clock : ℕ → ℕ → Ternary) (rows : List Row) where
 
     pub whole-front : (j : ℕ) → j < length made → rowAt (unrolledNetlist clock rows N) j ≡ patchNext last (rowAt made j)
     unfolding unrolledNetlist
-    whole-front j h = List·getD-append (map (patchNext last) made) (joinBelow N (phaseOutputs clock rows)) constant j (omega (arith, length-front)) ∙ List·getD-map (patchNext last) made j constant
+    whole-front j h = List·getD-append (map (patchNext last) made) _ constant j (omega (arith, length-front)) ∙ List·getD-map (patchNext last) made j constant
+
+    -- Each phase has its outputs.
+    pub whole-has : (k x a l p : ℕ) → k < N → x < length rows → rowAt rows x ≡ output a l p → RowIn (unrolledNetlist clock rows N) (output (getD (unrollPhases clock rows (suc k) .images) x 0) l k)
+    unfolding unrolledNetlist
+    whole-has k x a l p h b e = in-right (map (patchNext last) made) (joinBelow N (phaseOutputs clock rows)) _ (outputs-have N k x a l p h b e)
 
     pub whole-back : (j : ℕ) → length made ≤ j → j < length (unrolledNetlist clock rows N) → OutputOf N (rowAt (unrolledNetlist clock rows N) j)
     unfolding unrolledNetlist
@@ -87,10 +92,6 @@ module _ (clock : ℕ → ℕ → Ternary) (rows : List Row) where
         let e : j ≡ length f + d = omega (arith, length-front) in
         let l : d < length o = omega (arith, length-front, b, length-append f o) in
         rw (ap (rowAt (f ++ o)) e ∙ getD-append-add f o d constant) (outputs-each N d l)
-
-    pub whole-has : (k x a l p : ℕ) → k < N → x < length rows → rowAt rows x ≡ output a l p → RowIn (unrolledNetlist clock rows N) (output (getD (unrollPhases clock rows (suc k) .images) x 0) l k)
-    unfolding unrolledNetlist
-    whole-has k x a l p h b e = in-right (map (patchNext last) made) (joinBelow N (phaseOutputs clock rows)) _ (outputs-have N k x a l p h b e)
 
     pub ordered-whole : Ordered (unrolledNetlist clock rows N)
     ordered-whole j h = elim (decLt j (length made)) [

@@ -49,16 +49,17 @@ module _ (rows : List Row) where
   pub all-differ : (m : ℕ) → ((j : ℕ) → 1 ≤ j → j < m → j ≤ earlierEqual rows j) → AllDiffer rows m
   all-differ m h a b l k e = omega (arith, h b (omega arith) k, earlier-least b a e)
 
-  -- The first repeat that is tried for: the states before it differ.
+  -- The first repeat that is found equals an earlier state.
+  repeat-earlier : firstRepeat rows ≤ lastState → earlierEqual rows (firstRepeat rows) < firstRepeat rows
+  unfolding firstRepeat
+  repeat-earlier h = ltb-true _ _ (first-is 1 lastState (λ m. ltb (earlierEqual rows m) m) .holds (omega arith))
+
+  -- Found or not, the states before it differ.
   pub repeat-differ : AllDiffer rows (firstRepeat rows)
   unfolding firstRepeat
   repeat-differ =
       all-differ (firstRepeat rows) (λ j a b.
       ltb-false (earlierEqual rows j) j (first-is 1 lastState (λ m. ltb (earlierEqual rows m) m) .before j a b))
-
-  repeat-earlier : firstRepeat rows ≤ lastState → earlierEqual rows (firstRepeat rows) < firstRepeat rows
-  unfolding firstRepeat
-  repeat-earlier h = ltb-true _ _ (first-is 1 lastState (λ m. ltb (earlierEqual rows m) m) .holds (omega arith))
 
   -- Question 16: the answer is no exactly if states 0 to 256 all differ.
   pub lasso-none-iff : (findLasso rows ≡ none) ↔ AllDiffer rows (suc lastState)
