@@ -1,5 +1,6 @@
--- The trainer's table: the entries that are proved, and the printed sample.
+-- The trainer's table: the entries that are proved, and the printed sample; AIGER texts, and netlists that are sorted.
 pub mod Examples
 pub mod LongFile
 pub mod Table
 pub mod AigerTexts
+pub mod SortedRows
