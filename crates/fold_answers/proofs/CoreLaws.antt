@@ -7,14 +7,13 @@ use mathlib.Core.Option.{Option, none, some}
 use native.Mathlib.Omega.{arith}
 use lib.ListN.{length}
 use lib.Seq.{take-at}
-use borrow.Author.Tests.{ne-eqb}
 use Rattle.memory.specs.Fields.{IsBytes}
 use Rattle.netlist.specs.Limits.{foldClockEntries}
 use Rattle.netlist.specs.FileFormat.{fileOf, blocksFor, fileLeft}
 use Rattle.netlist.proofs.FileLaws.{file-length}
 use Rattle.abstraction.specs.Fold.{FoldAnswer}
 use Rattle.questions.specs.Questions.{noRefusal}
-use Rattle.questions.proofs.QuestionLaws.{same-number}
+use Rattle.questions.proofs.QuestionLaws.{same-number, number-some}
 use Rattle.fold_questions.specs.FoldQuestions.{foldRefusal}
 use Rattle.guarantees.specs.FoldGuarantee.{FoldGuarantee}
 use Rattle.guarantees.proofs.FoldPromise.{fold-guarantee}
@@ -40,8 +39,8 @@ module _ (file : List ℕ) (wish clocks : ℕ) (result : List ℕ) where
   pub core-refused : (work work′ : List ℕ) (r : FoldRefusal) → foldRefusalIn r ≡ foldRefusal file wish (length result) (length work) clocks → CoreFolded file wish clocks result result work work′ (Refused r)
   core-refused work work′ r e =
       let positive = fold-number-positive r in
-      let none-is : foldAnswered file wish (length result) (length work) clocks ≡ none = rw (ne-eqb (foldRefusal file wish (length result) (length work) clocks .number) 0 (λ z. omega (arith, same-number e))) refl in
-      let refused : foldRefusalIn r ≡ noRefusal → ⊥ = λ z. omega (arith, same-number z) in
+      let none-is : foldAnswered file wish (length result) (length work) clocks ≡ none = rw (number-some (foldRefusal file wish (length result) (length work) clocks) (omega (arith, positive, same-number e)) .0) refl in
+      let refused = number-some (foldRefusalIn r) positive .1 in
       record {
         done = record {
           refusal = e;

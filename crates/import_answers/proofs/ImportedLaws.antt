@@ -2,17 +2,14 @@
 -- Assumes nothing.
 use Prim.Native.Nat.{ℕ, _*_, _<_}
 use mathlib.Core.Path.{_≡_, sym, ap, _∙_, subst}
-use mathlib.Core.Bool.{false}
 use mathlib.Core.List.{List}
 use native.Mathlib.Omega.{arith}
 use lib.ListN.{length, replicate}
 use lib.Seq.{take-at}
-use lib.Dec.{eqb}
-use borrow.Author.Tests.{ne-eqb}
 use Rattle.netlist.specs.FileFormat.{blocksFor, fileOf, fileIn, fileLeft}
 use Rattle.netlist.proofs.FileLaws.{file-length}
 use Rattle.questions.specs.Questions.{noRefusal, unlessRefused}
-use Rattle.questions.proofs.QuestionLaws.{same-number}
+use Rattle.questions.proofs.QuestionLaws.{number-some}
 use Rattle.ordering.specs.GateOrder.{sortedNetlist}
 use Rattle.aiger.specs.AigerRows.{textRows}
 use Rattle.aiger.specs.ImportQuestions.{importRefusal}
@@ -35,16 +32,14 @@ import-positive (Loop i) = omega arith
 module _ (text result work work′ : List ℕ) (clear : work′ ≡ replicate (length work) 0) where
   pub import-refused : (r : ImportRefusal) → importRefusalIn r ≡ importRefusal text (length result) (length work) → Imported text result result work work′ (Refused r)
   import-refused r e =
-      let some-number = import-positive r in
-      let no : eqb (importRefusalIn r .number) 0 ≡ false = ne-eqb (importRefusalIn r .number) 0 (λ z. omega (arith, some-number, z)) in
-      let refused : importRefusalIn r ≡ noRefusal → ⊥ = λ z. omega (arith, some-number, same-number z) in
+      let some-number = number-some (importRefusalIn r) (import-positive r) in
       record {
         refusal = e;
-        rows = rw no;
-        written = rw no;
+        rows = rw (some-number .0);
+        written = rw (some-number .0);
         cleared = clear;
-        guarantee = λ z. absurd (refused z);
-        left = λ z. absurd (refused z);
+        guarantee = λ z. absurd (some-number .1 z);
+        left = λ z. absurd (some-number .1 z);
       }
 
   module _ (result′ : List ℕ) (answer : Importing) (e : importingRefusal answer ≡ importRefusal text (length result) (length work)) (count : rowsIn answer ≡ unlessRefused (importingRefusal answer) (length (textRows text)) 0)

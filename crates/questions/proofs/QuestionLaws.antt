@@ -6,8 +6,8 @@ use mathlib.Core.Bool.{Bool, true, false, cond, not, false≢true}
 use mathlib.Core.List.{List, [], _∷_, _++_}
 use native.Mathlib.Omega.{arith}
 use native.Mathlib.Decide.{decLt}
-use lib.Dec.{ltb}
-use borrow.Author.Tests.{ltb-true, ltb-false, le-ltb}
+use lib.Dec.{eqb, ltb}
+use borrow.Author.Tests.{ne-eqb, ltb-true, ltb-false, le-ltb}
 use Rattle.memory.specs.Lists.{firstFrom}
 use Rattle.memory.proofs.TestLaws.{cond-case}
 use Rattle.memory.proofs.ListLaws.{first-is, first-none}
@@ -71,7 +71,11 @@ pub _then_ {ℓ κ} : {A : Type ℓ} {B : Type κ} → A → B → A × B
 a then b = (a, b)
 
 pub number-none : (q : Refusal) → q ≡ noRefusal → q .number ≡ 0
-number-none q e = ap (λ (x : Refusal). x .number) e
+number-none q e = same-number e
+
+-- A refusal with a number: the test for none fails, and it is not none.
+pub number-some : (q : Refusal) → 0 < q .number → (eqb (q .number) 0 ≡ false) × (¬ (q ≡ noRefusal))
+number-some q h = (ne-eqb (q .number) 0 (λ z. omega (arith, z)), λ z. omega (arith, same-number z))
 
 -- ---- a question asked once
 

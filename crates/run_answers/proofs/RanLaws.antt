@@ -6,12 +6,12 @@ use mathlib.Core.List.{List}
 use native.Mathlib.Omega.{arith}
 use lib.ListN.{length, drop, replicate}
 use lib.Seq.{drop-at}
-use borrow.Author.Tests.{ne-eqb}
 use Rattle.memory.specs.Lists.{countIf}
 use Rattle.netlist.specs.Rows.{Row, isOutput}
 use Rattle.netlist.specs.FileFormat.{netlistOf}
 use Rattle.netlist.specs.RunLayout.{runBytes}
 use Rattle.questions.specs.Questions.{noRefusal, runRefusal}
+use Rattle.questions.proofs.QuestionLaws.{number-some}
 use Rattle.accept.proofs.RefusalLaws.{number-positive}
 use Rattle.run_answers.specs.RunAnswers.{runRefusalIn}
 use Rattle.run_answers.specs.Ran.{ranBytes, Ran}
@@ -33,7 +33,7 @@ ran-rest rows T choices inputs old = drop-at (runBytes rows choices inputs T) (d
 
 module _ (file : List ℕ) (T : ℕ) (choices inputs result work work′ : List ℕ) (clear : work′ ≡ replicate (length work) 0) where
   pub ran-refused : (r : RunRefusal) → runRefusalIn r ≡ runRefusal file T choices inputs (length result) (length work) → Ran file T choices inputs result result work work′ (Refused r)
-  ran-refused r e = record { refusal = e; written = rw (ne-eqb (runRefusalIn r .number) 0 (λ z. omega (arith, run-positive r, z))) refl; cleared = clear }
+  ran-refused r e = record { refusal = e; written = rw (number-some (runRefusalIn r) (run-positive r) .0) refl; cleared = clear }
 
   pub ran-done : (result′ : List ℕ) → noRefusal ≡ runRefusal file T choices inputs (length result) (length work) → result′ ≡ ranBytes (netlistOf file) T choices inputs result → Ran file T choices inputs result result′ work work′ Done
   ran-done result′ e w = record { refusal = e; written = w; cleared = clear }

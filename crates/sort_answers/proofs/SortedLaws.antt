@@ -2,18 +2,15 @@
 -- Assumes nothing.
 use Prim.Native.Nat.{ℕ, _*_, _<_}
 use mathlib.Core.Path.{_≡_, sym, ap, _∙_, subst}
-use mathlib.Core.Bool.{false}
 use mathlib.Core.List.{List}
 use native.Mathlib.Omega.{arith}
 use lib.ListN.{length, replicate}
 use lib.Seq.{take-at}
-use lib.Dec.{eqb}
-use borrow.Author.Tests.{ne-eqb}
 use Rattle.memory.specs.Fields.{IsBytes}
 use Rattle.netlist.specs.FileFormat.{netlistOf, blocksFor, fileOf, fileIn, fileLeft}
 use Rattle.netlist.proofs.FileLaws.{file-length}
 use Rattle.questions.specs.Questions.{noRefusal, unlessRefused}
-use Rattle.questions.proofs.QuestionLaws.{same-number}
+use Rattle.questions.proofs.QuestionLaws.{number-some}
 use Rattle.ordering.specs.GateOrder.{sortedNetlist}
 use Rattle.ordering.specs.SortQuestions.{sortRefusal}
 use Rattle.ordering.specs.SortGuarantee.{SortGuarantee}
@@ -35,16 +32,14 @@ sort-positive (Loop i) = omega arith
 module _ (file result work work′ : List ℕ) (clear : work′ ≡ replicate (length work) 0) where
   pub sort-refused : (r : SortRefusal) → sortRefusalIn r ≡ sortRefusal file (length result) (length work) → Sorted file result result work work′ (Refused r)
   sort-refused r e =
-      let some-number = sort-positive r in
-      let no : eqb (sortRefusalIn r .number) 0 ≡ false = ne-eqb (sortRefusalIn r .number) 0 (λ z. omega (arith, some-number, z)) in
-      let refused : sortRefusalIn r ≡ noRefusal → ⊥ = λ z. omega (arith, some-number, same-number z) in
+      let some-number = number-some (sortRefusalIn r) (sort-positive r) in
       record {
         refusal = e;
-        rows = rw no;
-        written = rw no;
+        rows = rw (some-number .0);
+        written = rw (some-number .0);
         cleared = clear;
-        guarantee = λ z. absurd (refused z);
-        left = λ z. absurd (refused z);
+        guarantee = λ z. absurd (some-number .1 z);
+        left = λ z. absurd (some-number .1 z);
       }
 
   module _ (result′ : List ℕ) (answer : Sorting) (bytes : IsBytes file) (e : sortingRefusal answer ≡ sortRefusal file (length result) (length work)) (count : rowsIn answer ≡ unlessRefused (sortingRefusal answer) (length (netlistOf file)) 0)
