@@ -1,2 +1,2 @@
--- What is promised: the file's round trips, and what an accepted fold guarantees.
+-- What an accepted fold guarantees.
 pub mod FoldGuarantee

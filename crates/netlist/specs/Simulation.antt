@@ -1,7 +1,7 @@
 -- A run of a netlist: the scope paper, "Values over time". The evaluator is written once, over the kind of values.
--- The concrete run is that over `boolLogic`; the three-valued run is that over `ternaryLogic`, with X on every input and as every unknown reset.
+-- The concrete run is that over `boolLogic`; `TernaryRun` in `lasso` has the three-valued one.
 -- A state is a list with one value for each row; at a row that is no register it is `low`, so states are equal exactly if their registers are.
--- Interface: Logic, boolLogic, ternaryLogic, runState, runValue, ternaryState, RunValues, outputShows, registerHolds.
+-- Interface: Logic, boolLogic, runState, runValue, RunValues, outputShows, registerHolds.
 -- Assumes nothing.
 use Prim.Native.Nat.{ℕ, zero, suc, _/_, _%_}
 use mathlib.Core.Bool.{Bool, false, cond, not, _&&_}
