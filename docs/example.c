@@ -45,6 +45,10 @@ int main(int count, char **words)
         fputs("the form is: example FILE RESULT\n", stderr);
         return 2;
     }
+    if (pf_version() != PF_VERSION) {
+        fputs("the library is of another version than its header\n", stderr);
+        return 2;
+    }
     size_t size;
     if (!read_file(words[1], &size)) return failed(words[1]);
 
