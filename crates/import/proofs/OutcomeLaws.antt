@@ -117,6 +117,10 @@ module _ (text : List ℕ) where
       unfolding textRefusal
       few h = rw (read-is-text text (aigerIn text) said, le-leb (length (textRows text)) mostRows h) (loop-last (textRows text))
 
+      -- The rows that stand as pairs are those of the text.
+      pub rows-stand : (x : Header) → headerIn x ≡ aigerIn text .header → (w : List ℕ) → PairsStand (aigerIn text) w → sourceRows (layout.Pairs (pairsIn x)) w ≡ textRows text
+      rows-stand x is w S = source-are (aigerIn text) w S x is ∙ sym rows-are
+
       module _ (x : Header) (is : headerIn x ≡ aigerIn text .header) (n : ℕ) (e : n ≡ 1 + lineCount (headerIn x)) (result result′ : List ℕ) where
         all : length (textRows text) ≡ n
         all = omega (arith, count-is, e, ap lineCount is)
@@ -127,8 +131,7 @@ module _ (text : List ℕ) where
         pub rows-imported : n ≤ mostRows → (w : List ℕ) → PairsStand (aigerIn text) w → (answer : Importing) → RowsSorted (sourceRows (layout.Pairs (pairsIn x)) w) result result′ (importingRefusal answer) (rowsIn answer) → TextImported text result result′ answer
         rows-imported h w S answer D =
             let k = few (omega (arith, all, h)) in
-            let same : sourceRows (layout.Pairs (pairsIn x)) w ≡ textRows text = source-are (aigerIn text) w S x is ∙ sym rows-are in
-            let D′ : RowsSorted (textRows text) result result′ (importingRefusal answer) (rowsIn answer) = rw (← same) D in
+            let D′ : RowsSorted (textRows text) result result′ (importingRefusal answer) (rowsIn answer) = rw (← rows-stand x is w S) D in
             record { refusal = D′ .refusal ∙ sym k; rows = rw k (D′ .count); written = rw k (D′ .written) }
 
 -- ---- what `import_lines` knows: the text's lines stand, x is their header, n counts the rows, r says whether the names are right

@@ -90,7 +90,7 @@ fn import_names(
 }
 
 // Memory for the names.
-fn name_room() -> [u8; NAME_BYTES]
+pub fn name_room() -> [u8; NAME_BYTES]
     ensures { λ r. ⌜ nameBytes ≡ length r ⌝ }
 {
     [0; NAME_BYTES]

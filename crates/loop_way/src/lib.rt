@@ -1,15 +1,21 @@
-// The way from the lowest gate that is never placed to the loop of gates that it waits for, for whoever is to mend it.
+// The way from the lowest gate that is never placed to the loop of gates that it waits for, in a file or in an AIGER text, for whoever is to mend it.
 ghost use mathlib.Core.Path.{_≡_};
 ghost use Prim.Native.Nat.{_*_, _<_, _≤_};
 ghost use lib.ListN.{length};
 ghost use Rattle.memory.specs.Slots.{slotAt};
 ghost use Rattle.netlist.specs.FileFormat.{netlistOf};
+ghost use Rattle.aiger.specs.AigerRows.{textRows};
 ghost use Rattle.gate_rows.specs.Sources.{sourceRows, Source};
-ghost use Rattle.gate_rows.specs.declared.Layout.the-variants.{File};
+ghost use Rattle.aiger_lines.specs.Lines.{Counted};
+ghost use Rattle.aiger_names.specs.Names.{nameBytes};
 ghost use Rattle.loop_way.specs.Ways.{ClosedAt, IsWay};
 use accept::Acceptance;
+use aiger_lines::Headed;
+use aiger_lines::Header;
 use gate_rows::Layout;
+use gate_rows::Pairs;
 use netlist::LARGE_WORK_BYTES;
+use netlist::MOST_FILE_ROWS;
 
 // How many gates the way has, and which of them the last one names, counted from 0: there the loop starts. Both are 0 if there is no way.
 pub struct Way {
@@ -55,17 +61,24 @@ fn close(list: &[u8], count: usize, row: usize) -> Way
 }
 
 // From gate to gate, as the walk went that left these slots: an open row has 1 + the row that led to it.
-fn follow(file: &[u8], slots: &[u8], rows: usize, first: usize, list: &mut [u8]) -> Way
-    requires { ⌜ Source File (now file) rows × (first < rows) ⌝ }
+fn follow(
+    source: &[u8],
+    layout: Layout,
+    slots: &[u8],
+    rows: usize,
+    first: usize,
+    list: &mut [u8],
+) -> Way
+    requires { ⌜ Source layout (now source) rows × (first < rows) ⌝ }
     requires { ⌜ (2 * rows ≤ length (now slots)) × (2 * rows ≤ length (now list)) ⌝ }
-    ensures { λ r. ⌜ IsWay (sourceRows File (now (file .entry))) (now (list .exit)) (r .count) (r .start) ⌝ }
+    ensures { λ r. ⌜ IsWay (sourceRows layout (now (source .entry))) (now (list .exit)) (r .count) (r .start) ⌝ }
 {
     let mut row = first;
     let mut count = 0;
     'walk: while count < rows {
         memory::set_slot(&mut *list, count, row);
         count += 1;
-        let next = gate_loops::unsettled_operand(file, Layout::File, slots, rows, row);
+        let next = gate_loops::unsettled_operand(source, layout, slots, rows, row);
         if next == 0 {
             return no_way();
         }
@@ -85,15 +98,15 @@ fn slot_room() -> [u8; LARGE_WORK_BYTES]
     [0; LARGE_WORK_BYTES]
 }
 
-// The way in a file of this many rows.
-fn find_in(file: &[u8], rows: usize, list: &mut [u8]) -> Way
-    requires { ⌜ Source File (now file) rows × (2 * rows ≤ length (now list)) ⌝ }
-    ensures { λ r. ⌜ IsWay (sourceRows File (now (file .entry))) (now (list .exit)) (r .count) (r .start) ⌝ }
+// The way among so many rows.
+fn find_in(source: &[u8], layout: Layout, rows: usize, list: &mut [u8]) -> Way
+    requires { ⌜ Source layout (now source) rows × (2 * rows ≤ length (now list)) ⌝ }
+    ensures { λ r. ⌜ IsWay (sourceRows layout (now (source .entry))) (now (list .exit)) (r .count) (r .start) ⌝ }
 {
     let mut slots = slot_room();
-    let first = gate_loops::find_loop(file, Layout::File, &mut slots, rows);
+    let first = gate_loops::find_loop(source, layout, &mut slots, rows);
     if first < rows {
-        follow(file, &slots, rows, first, list)
+        follow(source, layout, &slots, rows, first, list)
     } else {
         no_way()
     }
@@ -108,6 +121,60 @@ pub fn find_way(file: &[u8], list: &mut [u8]) -> Way
     }
     match accept::accept_unordered(file) {
         Acceptance::Refused(_) => no_way(),
-        Acceptance::Accepted { rows, counts: _ } => find_in(file, rows, list),
+        Acceptance::Accepted { rows, counts: _ } => find_in(file, Layout::File, rows, list),
+    }
+}
+
+// ---- AIGER texts
+
+// The way in a text whose lines are right by themselves; `names` is for names and pairs, as in Import.
+fn find_in_pairs(text: &[u8], h: Header, from: usize, names: &mut [u8], list: &mut [u8]) -> Way
+    requires { ⌜ Counted (now text) h from × (nameBytes ≤ length (now names)) ⌝ }
+    requires { ⌜ 65536 ≤ length (now list) ⌝ }
+    ensures { λ r. ⌜ IsWay (textRows (now (text .entry))) (now (list .exit)) (r .count) (r .start) ⌝ }
+{
+    let rows = 1 + aiger_lines::line_count(h);
+    let fits = rows <= MOST_FILE_ROWS;
+    if !fits {
+        return no_way();
+    }
+    let base = 4 * rows;
+    if !aiger_names::names_right(text, h, from, fits, base, &mut *names) {
+        return no_way();
+    }
+    let counts = Pairs {
+        inputs: h.inputs,
+        registers: h.latches,
+        gates: h.gates,
+        outputs: h.outputs,
+    };
+    find_in(names, Layout::Pairs(counts), rows, list)
+}
+
+// The same, with an array for the names.
+fn find_in_lines(text: &[u8], h: Header, from: usize, list: &mut [u8]) -> Way
+    requires { ⌜ Counted (now text) h from × (65536 ≤ length (now list)) ⌝ }
+    ensures { λ r. ⌜ IsWay (textRows (now (text .entry))) (now (list .exit)) (r .count) (r .start) ⌝ }
+{
+    let mut names = import::name_room();
+    find_in_pairs(text, h, from, &mut names, list)
+}
+
+// The same for an AIGER text, and its rows as they stand before the gates are put in order.
+pub fn find_text_way(text: &[u8], list: &mut [u8]) -> Way
+    ensures { λ r. ⌜ IsWay (textRows (now (text .entry))) (now (list .exit)) (r .count) (r .start) ⌝ }
+{
+    if list.len() < LARGE_WORK_BYTES {
+        return no_way();
+    }
+    match aiger_lines::read_header(text) {
+        Headed::Other => no_way(),
+        Headed::Is(h, from) => {
+            if aiger_lines::lines_right(text, h, from) {
+                find_in_lines(text, h, from, list)
+            } else {
+                no_way()
+            }
+        }
     }
 }

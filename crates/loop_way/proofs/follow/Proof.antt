@@ -4,17 +4,16 @@ use Prim.Native.Nat.{_-_, _*_, _≤_}
 use mathlib.Core.Path.{_≡_}
 use lib.ListN.{length}
 use Rattle.gate_rows.specs.Sources.{sourceRows}
-use Rattle.gate_rows.specs.declared.Layout.the-variants as layout
 use Rattle.loop_way.proofs.WayLaws.{no-way, Walking, walk-starts, walks-on, way-closed}
 use borrow.Author.Needs.{needs}
 use Rattle.loop_way.proofs.follow.Statement.{statement}
 use Rattle.loop_way.proofs.follow.Tie as tie
 
 abbrev Inv-walk : tie.InvT-walk
-Inv-walk file slots rows first list₀ row₀ count₀ list row count = (count ≤ rows) × (2 * rows ≤ length list) × (length list ≡ length list₀) × Walking (sourceRows layout.File file) list count row
+Inv-walk source layout slots rows first list₀ row₀ count₀ list row count = (count ≤ rows) × (2 * rows ≤ length list) × (length list ≡ length list₀) × Walking (sourceRows layout source) list count row
 
 abbrev μ-walk : tie.MeasureT-walk
-μ-walk file slots rows first list₀ row₀ count₀ list row count = rows - count
+μ-walk source layout slots rows first list₀ row₀ count₀ list row count = rows - count
 
 walk-holds : tie.Need-walk-holds Inv-walk μ-walk
 walk-holds c = search (walk-starts, needs)
