@@ -26,6 +26,9 @@ check_name() {
 
 # What is replaced must be a plain file that may be written, for root too, and read, to see what it is.
 check_old() {
+    case $path in
+    /dev/stdout | /dev/fd/1 | /proc/self/fd/1 | "/proc/$$/fd/1") fail "$result: not a plain file; write - for standard output" ;;
+    esac
     if [ -h "$path" ] || ! [ -f "$path" ]; then
         fail "$result: not a plain file"
     fi

@@ -13,12 +13,14 @@ use aiger_lines::Section;
 use lines::header_cause;
 use lines::line_fault;
 use names::name_fault;
+pub use words::header_number;
 
-// What stands where a number should; all but the first are none.
+// What stands where a number should; all but the first are none. LastSpace: the line ends behind a space.
 pub enum Word {
     Number,
     End,
     LineFeed,
+    LastSpace,
     Space,
     Tab,
     Return,

@@ -3,7 +3,9 @@ ghost use Prim.Native.Nat.{_≤_};
 ghost use lib.ListN.{length};
 use crate::Cause;
 use crate::Word;
+use text::bytes::find;
 use text::bytes::is_blank;
+use text::bytes::least;
 
 const LARGEST: u64 = 4294967295;
 
@@ -64,10 +66,14 @@ fn word_end(text: &[u8], at: usize) -> usize {
     end
 }
 
-// What a byte is where a number should stand.
-fn word_of_byte(byte: u8) -> Word {
+// What a byte is where a number should stand, behind others or not.
+fn word_of_byte(byte: u8, behind: bool) -> Word {
     match byte {
-        b'\n' => Word::LineFeed,
+        b'\n' => if behind {
+            Word::LastSpace
+        } else {
+            Word::LineFeed
+        },
         b' ' => Word::Space,
         b'\t' => Word::Tab,
         b'\r' => Word::Return,
@@ -79,12 +85,12 @@ fn word_of_byte(byte: u8) -> Word {
 fn word_before(byte: u8) -> Word {
     match byte {
         b'\n' | b' ' => Word::Number,
-        _ => word_of_byte(byte),
+        _ => word_of_byte(byte, true),
     }
 }
 
-// What stands at `at`, where digits end at `end`.
-fn word_at(text: &[u8], at: usize, end: usize, value: u64) -> Word
+// What stands at `at`, behind numbers or not, where digits end at `end`.
+fn word_at(text: &[u8], at: usize, end: usize, value: u64, behind: bool) -> Word
     requires { ⌜ (at ≤ end) × (end ≤ length (now text)) ⌝ }
 {
     let size = end - at;
@@ -101,7 +107,7 @@ fn word_at(text: &[u8], at: usize, end: usize, value: u64) -> Word
     }
     let byte = text[end];
     if size == 0 {
-        word_of_byte(byte)
+        word_of_byte(byte, behind)
     } else {
         word_before(byte)
     }
@@ -116,7 +122,7 @@ pub fn line_cause(text: &[u8], from: usize) -> Cause
     'words: while at <= text.len() {
         let digits = read_digits(text, at);
         let end = digits.end;
-        let word = word_at(text, at, end, digits.value);
+        let word = word_at(text, at, end, digits.value, 0 < count);
         match word {
             Word::Number => {
                 count = std::num::wrapping_add_usize(count, 1);
@@ -137,4 +143,20 @@ pub fn line_cause(text: &[u8], from: usize) -> Cause
         at = end + 1;
     }
     Cause::Nothing
+}
+
+// Number `index`, counted from 0, of a header's line in which all are numbers; 0 past the last.
+pub fn header_number(line: &[u8], index: usize) -> usize {
+    let mut at = least(4, line.len());
+    let mut left = index;
+    'words: while 0 < left {
+        let space = find(line, at, b' ');
+        if space == line.len() {
+            return 0;
+        }
+        at = space + 1;
+        left -= 1;
+    }
+    let digits = read_digits(line, at);
+    digits.value as usize
 }

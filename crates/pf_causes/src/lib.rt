@@ -1,6 +1,7 @@
 // A refusal told: its line on standard output, and on standard error a sentence that says what is wrong where, with the values seen.
 
-mod loop_causes;
+pub mod loop_causes;
+pub mod text_causes;
 
 use accept::Acceptance;
 use c_answers::PfCounts;
@@ -22,6 +23,9 @@ use text::bytes::get;
 use text::bytes::same;
 use text::out::one;
 use text::out::two;
+use text_causes::encoding_of;
+use text_causes::is_text_byte;
+use text_causes::say_encoding;
 
 const MOST_FILE_BYTES: usize = 262144;
 
@@ -124,21 +128,12 @@ fn say_other_cause(file: &[u8], number: u32, place: usize, word: &[u8]) {
 }
 
 // All but 18 to 20; `word` is the number that was given with the call.
-fn say_cause(file: &[u8], number: u32, place: usize, word: &[u8]) {
+pub fn say_cause(file: &[u8], number: u32, place: usize, word: &[u8]) {
     match number {
         1 => say_length(file),
         2..=5 => say_block_cause(file, number, place),
         6..=9 => say_row_cause(file, number, place),
         _ => say_other_cause(file, number, place, word),
-    }
-}
-
-// Whether a byte is one of a text.
-fn is_text_byte(byte: u8) -> bool {
-    match byte {
-        b'\t' | b'\n' | b'\r' => true,
-        32..=126 => true,
-        _ => false,
     }
 }
 
@@ -164,10 +159,13 @@ fn say_kind_of_text(file: &[u8]) {
 
 // A file that is refused for its length or its first block may be a text.
 fn say_text_remark(file: &[u8], number: u32) {
-    if number <= 3 {
-        if looks_like_text(file) {
-            say_kind_of_text(file);
-        }
+    if 3 < number {
+        return;
+    }
+    if looks_like_text(file) {
+        say_kind_of_text(file);
+    } else {
+        say_encoding(b"; ", encoding_of(file));
     }
 }
 

@@ -1,15 +1,22 @@
 // What an AIGER text is not imported for: refusals 22, 24 and 25, each on its line of the text.
 use aiger_faults::Cause;
 use aiger_faults::Word;
+use aiger_faults::header_number;
 use aiger_lines::Section;
 use listing::folds::work_room;
-use pf_words::block_causes::is_first_block;
+use pf_causes::loop_causes::say_text_loop;
+use pf_causes::text_causes::say_text_cause;
 use pf_words::outcome::say;
 use pf_words::outcome::say_text;
 use pf_words::outcome::say_where;
 use pf_words::outcome::say_word;
+use row_text::Text;
+use row_text::read_text;
+use text::both;
+use text::bytes::find;
 use text::bytes::first;
 use text::bytes::rest;
+use text::numbers::LARGEST;
 use text::out::one;
 use text::out::two;
 
@@ -24,6 +31,9 @@ fn say_no_number(word: Word, bytes: &[u8]) {
     match word {
         Word::End => say_text(b"the text ends in this line, without a line feed"),
         Word::LineFeed => say_text(b"the line ends where a number should stand"),
+        Word::LastSpace => {
+            say_text(b"a space stands at the line's end: sed 's/ *$//' drops it");
+        }
         Word::Space => say_text(b"a space stands where a number should"),
         Word::Tab => say_text(b"there is a tab, and numbers are parted by single spaces"),
         Word::Return => {
@@ -35,23 +45,68 @@ fn say_no_number(word: Word, bytes: &[u8]) {
     }
 }
 
+// Whether the text begins with a row, as pf make takes it.
+fn begins_with_row(text: &[u8]) -> bool {
+    let mut numbers = [0u32; 6];
+    let mut nowhere = [0u8; 1];
+    match read_text(text, &mut numbers, &mut nowhere) {
+        Text::Wrong {
+            line: _,
+            at: _,
+            rows,
+            wrong: _,
+        } => 0 < rows,
+        Text::Rows(rows) => 0 < rows,
+    }
+}
+
 // A text that does not open as it should.
 fn say_opening(text: &[u8]) {
-    if is_first_block(text) {
-        say_text(b"this is a netlist file already, and no text");
+    if begins_with_row(text) {
+        say_text(b"this is a text of rows, of which pf make makes a netlist file");
     } else {
         say_text(b"the text does not open with \"aag \"");
     }
 }
 
+// What to write for a header of AIGER 1.9, with B, C, J and F after the five numbers. B and C count lines that follow those of the outputs.
+fn say_longer_header(line: &[u8]) {
+    let bad = header_number(line, 5);
+    let more = std::num::wrapping_add_usize(bad, header_number(line, 6));
+    let outputs = std::num::wrapping_add_usize(header_number(line, 3), more);
+    let justice = header_number(line, 7);
+    let fairness = header_number(line, 8);
+    let plain = [
+        header_number(line, 0),
+        header_number(line, 1),
+        header_number(line, 2),
+        outputs,
+        header_number(line, 4),
+        0,
+    ];
+    if 0 < std::num::wrapping_add_usize(justice, fairness) {
+        say_text(b"; justice and fairness (J, F) are not read");
+    } else if more == 0 {
+        say(
+            b"; the others are 0, so \"aag # # # # #\" says the same",
+            plain,
+        );
+    } else if outputs <= LARGEST as usize {
+        say(
+            b"; bad states and constraints follow the outputs, so \"aag # # # # #\" reads them as outputs",
+            plain,
+        );
+    }
+}
+
 // A header of another count of numbers.
-fn say_header(count: usize) {
+fn say_header(text: &[u8], count: usize) {
     say(
         b"the header has # numbers, and 5 are read: M I L O A",
         one(count),
     );
-    if 5 < count {
-        say_text(b" (no B C J F of AIGER 1.9)");
+    if both(5 < count, count <= 9) {
+        say_longer_header(first(text, find(text, 0, b'\n')));
     }
 }
 
@@ -127,7 +182,7 @@ fn say_fault(text: &[u8], cause: Cause) {
     match cause {
         Cause::Opening => say_opening(text),
         Cause::Binary => say_text(b"this is binary AIGER, of which aigtoaig makes a text"),
-        Cause::Header { count } => say_header(count),
+        Cause::Header { count } => say_header(text, count),
         Cause::NoOutput => say_text(b"O is 0, and at least one output is needed"),
         Cause::Twice { literal } => say(b"# is defined a second time", one(literal as usize)),
         Cause::Undefined { literal } => say_undefined(literal),
@@ -141,17 +196,16 @@ fn say_other_text(source: &[u8], text: &[u8]) {
     let fault = aiger_faults::find_fault(text, &mut work);
     let cause = fault.cause;
     say_where(source, fault.line);
-    say_fault(text, cause);
+    if !say_text_cause(text) {
+        say_fault(text, cause);
+    }
 }
 
 // 22
 fn say_waiting_gate(source: &[u8], text: &[u8], row: usize) {
     let gate = aiger_faults::find_gate(text, row);
     say_where(source, gate.line);
-    say(
-        b"gate #, row #, waits for a loop of gates",
-        two(gate.literal as usize, row),
-    );
+    say_text_loop(text, gate.literal as usize, row);
 }
 
 // 25

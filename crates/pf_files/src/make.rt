@@ -2,9 +2,9 @@
 use c_answers::PfRefusal;
 use listing::rows::MOST_ROWS;
 use listing::rows::file_bytes;
-use pf_causes::refuse;
+use pf_causes::say_cause;
+use pf_causes::text_causes::say_text_cause;
 use pf_causes::unordered_refusal;
-use pf_words::block_causes::is_first_block;
 use pf_words::outcome::OUTPUT;
 use pf_words::outcome::Outcome;
 use pf_words::outcome::fail_at;
@@ -14,7 +14,9 @@ use pf_words::outcome::say;
 use pf_words::outcome::say_text;
 use pf_words::outcome::say_where;
 use pf_words::outcome::say_word;
+use pf_words::outcome::tell_refusal;
 use pf_words::rooms::result_room;
+use pf_words::row_causes::first_own;
 use pf_words::row_causes::say_row_cause;
 use pf_words::saving::save;
 use row_text::LARGE;
@@ -99,13 +101,6 @@ fn tell_line(source: &[u8], line: usize) -> Outcome {
     outcome
 }
 
-// A whole text is refused at a line.
-fn refuse_text(source: &[u8], line: usize, cause: &[u8]) -> Outcome {
-    let outcome = tell_line(source, line);
-    say_text(cause);
-    outcome
-}
-
 // ---- the file
 
 // The line of the row at which a file is refused; 0 if it is refused as a whole.
@@ -117,13 +112,14 @@ fn refused_line(text: &[u8], refusal: PfRefusal) -> usize {
     }
 }
 
-// If the gates of a file that is made are not in order, this is told, with the first gate that Check refuses.
+// If the gates of a file that is made are not in order, this is told: of a gate that names itself, else of the first that Check refuses.
 fn say_if_unordered(source: &[u8], text: &[u8], file: &[u8]) {
     let refusal = phasefold::c_check::pf_check(file);
     if refusal.number != 0 {
-        say_where(source, refused_line(text, refusal));
+        let row = first_own(file, refusal.place as usize);
+        say_where(source, line_of(text, row));
         say_text(b"the file is made, but its gates are not in order: ");
-        say_row_cause(file, refusal.number, refusal.place as usize);
+        say_row_cause(file, refusal.number, row);
         say_text(b"\n");
     }
 }
@@ -143,10 +139,15 @@ fn save_told(source: &[u8], text: &[u8], path: &[u8], file: &[u8]) -> Outcome {
 fn save_accepted(source: &[u8], text: &[u8], path: &[u8], file: &[u8]) -> Outcome {
     let refusal = unordered_refusal(file);
     if refusal.number == 0 {
-        save_told(source, text, path, file)
-    } else {
-        refuse(source, refused_line(text, refusal), file, refusal, b"")
+        return save_told(source, text, path, file);
     }
+    let outcome = tell_refusal(refusal);
+    say_where(source, refused_line(text, refusal));
+    if !say_text_cause(text) {
+        say_cause(file, refusal.number, refusal.place as usize, b"");
+    }
+    say_text(b"\n");
+    outcome
 }
 
 // Heads and check words around the rows that stand in `result`.
@@ -165,7 +166,12 @@ fn seal(result: &mut [u8], rows: usize) -> usize {
 // The file of this many rows that stand in `result`.
 fn save_rows(source: &[u8], text: &[u8], path: &[u8], result: &mut [u8], rows: usize) -> Outcome {
     if rows == 0 {
-        return refuse_text(source, 0, b"the text has no row\n");
+        let outcome = tell_line(source, 0);
+        if !say_text_cause(text) {
+            say_text(b"the text has no row");
+        }
+        say_text(b"\n");
+        return outcome;
     }
     let size = seal(result, rows);
     save_accepted(source, text, path, first(result, size))
@@ -183,7 +189,9 @@ fn make_file(source: &[u8], text: &[u8], path: &[u8], result: &mut [u8]) -> Outc
             wrong,
         } => {
             let outcome = tell_line(source, line);
-            say_wrong(text, at, numbers, rows, wrong);
+            if !say_text_cause(text) {
+                say_wrong(text, at, numbers, rows, wrong);
+            }
             say_text(b"\n");
             outcome
         }
@@ -191,17 +199,12 @@ fn make_file(source: &[u8], text: &[u8], path: &[u8], result: &mut [u8]) -> Outc
     }
 }
 
-// The file of a text, unless it is a netlist file or an AIGER text.
+// The file of a text, unless it is an AIGER text.
 fn make_in_room(source: &[u8], text: &[u8], path: &[u8]) -> Outcome {
-    if is_first_block(text) {
-        return refuse_text(source, 1, b"this is a netlist file already, and no text\n");
-    }
     if same(first(text, 4), b"aag ") {
-        return refuse_text(
-            source,
-            1,
-            b"this is an AIGER text, of which pf import makes a netlist file\n",
-        );
+        let outcome = tell_line(source, 1);
+        say_text(b"this is an AIGER text, of which pf import makes a netlist file\n");
+        return outcome;
     }
     let mut result = result_room();
     make_file(source, text, path, &mut result)

@@ -5,6 +5,9 @@ use c_answers::PfCounts;
 use c_answers::PfRefusal;
 use pf_causes::count_refusal;
 use pf_causes::refuse;
+use pf_causes::text_causes::Encoding;
+use pf_causes::text_causes::encoding_of;
+use pf_causes::text_causes::say_encoding;
 use pf_words::outcome::OUTPUT;
 use pf_words::outcome::Outcome;
 use pf_words::outcome::fail_at;
@@ -133,19 +136,19 @@ fn read_values(bytes: &mut [u8], size: usize) -> Values {
 
 // ---- refusals 18 to 20
 
-// What a run is asked for: the number of steps, and the counts of the file.
+// What a run is asked for: the number of steps, the counts of the file, and how the text of the values is written.
 struct Asked {
     steps: u32,
     counts: PfCounts,
+    encoding: Encoding,
 }
 
 // 18
-fn say_lists(source: &[u8], asked: Asked, count: usize) {
+fn say_lists(asked: Asked, count: usize) {
     let counts = asked.counts;
     let unknown = counts.unknown as usize;
     let inputs = counts.inputs as usize;
     let times = asked.steps as usize;
-    say_where(source, 0);
     say(
         b"there are # values, and should be # for X registers and # for inputs at each of # steps",
         [count, unknown, inputs, times, 0, 0],
@@ -153,12 +156,29 @@ fn say_lists(source: &[u8], asked: Asked, count: usize) {
 }
 
 // 19
-fn say_value(source: &[u8], values: Values) {
+fn say_value(values: Values) {
     let seen = [values.byte; 1];
-    say_where(source, values.wrong_line);
     say(b"value #, counted from 0, is ", one(values.wrong));
     say_word(&seen);
     say_text(b", and should be 0 or 1");
+}
+
+// 18 and 19, which a mark before the text, UTF-16 or commas may be the cause of.
+fn say_values_cause(source: &[u8], number: u32, asked: Asked, values: Values) {
+    let line = if number == 18 { 0 } else { values.wrong_line };
+    let encoding = asked.encoding;
+    say_where(source, line);
+    if say_encoding(b"", encoding) {
+        return;
+    }
+    if number == 18 {
+        say_lists(asked, values.count);
+    } else {
+        say_value(values);
+    }
+    if values.byte == b',' {
+        say_text(b"; a comma counts as a value: values are parted by blanks, or by nothing");
+    }
 }
 
 // 20
@@ -184,8 +204,7 @@ fn refuse_run(
     let outcome = tell_refusal(refusal);
     let number = refusal.number;
     match number {
-        18 => say_lists(source, asked, values.count),
-        19 => say_value(source, values),
+        18 | 19 => say_values_cause(source, number, asked, values),
         _ => say_memory(path, asked),
     }
     say_text(b"\n");
@@ -277,10 +296,12 @@ fn run_text(
     if counts.number != 0 {
         return refuse(path, 0, file, count_refusal(counts), word);
     }
+    let encoding = encoding_of(first(room, size));
     let values = read_values(room, size);
     let asked = Asked {
         steps: steps,
         counts: counts,
+        encoding: encoding,
     };
     run_accepted(
         path,

@@ -201,26 +201,60 @@ fn strange_operand(file: &[u8], fields: Fields) -> usize {
     fields.c
 }
 
-// A gate's first operand that is no earlier row.
+// The operand that a gate is refused for: one that names the gate itself, else the first that is no earlier row.
 fn late_operand(fields: Fields, row: usize) -> usize {
-    if row <= fields.a / 2 {
+    if fields.a / 2 == row {
         return fields.a;
     }
-    if row <= fields.b / 2 {
+    if fields.b / 2 == row {
+        return fields.b;
+    }
+    if fields.c / 2 == row {
+        return fields.c;
+    }
+    if row < fields.a / 2 {
+        return fields.a;
+    }
+    if row < fields.b / 2 {
         return fields.b;
     }
     fields.c
+}
+
+// Whether a row is a gate that names itself.
+fn names_itself(fields: Fields, row: usize) -> bool {
+    let kind = fields.kind;
+    match kind {
+        3..=5 => late_operand(fields, row) / 2 == row,
+        _ => false,
+    }
+}
+
+// The first gate from `row` on that names itself; `row` if there is none.
+pub fn first_own(file: &[u8], row: usize) -> usize {
+    let rows = row_count(file);
+    let mut later = row;
+    'rows: while later < rows {
+        let fields = fields_of(file, later);
+        if names_itself(fields, later) {
+            return later;
+        }
+        later += 1;
+    }
+    row
 }
 
 // A gate's operand that is no earlier row; where it is the gate itself, no order helps.
 fn say_late_operand(row: usize, literal: usize) {
     let named = literal / 2;
     say(
-        b"row #: literal # names row #, and a gate's operands name earlier rows",
+        b"row #: literal # names row #, ",
         three(row, literal, named),
     );
-    if named != row {
-        say_text(b"; pf sort puts gates in order");
+    if named == row {
+        say_text(b"the gate itself: a loop, which no order mends; it needs a register");
+    } else {
+        say_text(b"and a gate's operands name earlier rows; pf sort puts gates in order");
     }
 }
 
