@@ -88,6 +88,6 @@ pub fn fold_listed(
     requires { ⌜ entries ≤ 260 ⌝ }
 {
     let mut clocks = fillers();
-    let answer = phasefold::fold(file, wish, result, work, &mut clocks[..entries]);
+    let answer = fold::fold(file, wish, result, work, &mut clocks[..entries]);
     told(answer, clocks, numbers)
 }
