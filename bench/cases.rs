@@ -17,6 +17,7 @@ pub enum Task {
     Import,
     Run { steps: u32, choices: Vec<u8>, inputs: Vec<u8> },
     Fold { wish: u32 },
+    Trace { wish: u32, last: [u32; 2], choices: Vec<u8>, inputs: Vec<u8> },
 }
 
 /// Makes a text.
@@ -36,6 +37,8 @@ pub struct Case {
     result: Vec<u8>,
     work: Vec<u8>,
     clocks: Vec<Clock>,
+    /// Where a trace goes.
+    trace: Vec<u8>,
 }
 
 #[derive(Clone, Copy, PartialEq)]
@@ -57,6 +60,7 @@ impl Case {
             result: vec![0; 262_144],
             work: vec![0; 196_608],
             clocks: vec![Clock { label: 0, period: 0, word: 0, ones: 0 }; 256],
+            trace: Vec::new(),
         }
     }
 
@@ -93,7 +97,7 @@ impl Case {
     /// Does the operation once; answers whether it was done.
     pub fn once(&mut self, side: Side) -> bool {
         let lent = self.lent();
-        let Case { file, result, work, clocks, .. } = self;
+        let Case { file, result, work, clocks, trace, .. } = self;
         let (result, work) = (&mut result[..lent.0], &mut work[..lent.1]);
         let ours = side == Side::Library;
         match &self.task {
@@ -115,6 +119,12 @@ impl Case {
             }
             Task::Fold { wish } if ours => library::fold(file, *wish, result, work, clocks).is_ok(),
             Task::Fold { wish } => twin::fold(file, *wish, result, work, clocks).is_ok(),
+            Task::Trace { wish, last, choices, inputs } if ours => {
+                library::trace(file, *wish, *last, choices, inputs, result, work, trace).is_ok()
+            }
+            Task::Trace { wish, last, choices, inputs } => {
+                twin::trace(file, *wish, *last, choices, inputs, result, work, trace).is_ok()
+            }
         }
     }
 }
@@ -369,6 +379,88 @@ pub fn measured_texts() -> impl Iterator<Item = Vec<u8>> {
     })
 }
 
+/// The scope paper's sample.
+pub fn sample() -> Vec<u8> {
+    encode(&[
+        constant(),
+        input(0, 0),
+        register(0, 5, 0),
+        register(0, 10, 1),
+        register(0, 12, 2),
+        row(5, 0, 4, 2, 6),
+        row(5, 0, 4, 8, 6),
+        output(8, 0, 0),
+    ])
+}
+
+/// So many inputs, all of which an output shows by a tree of XORs.
+fn xor_tree(inputs: usize) -> Vec<Row> {
+    let mut rows = vec![constant()];
+    rows.extend((0..inputs).map(|label| input(label, 0)));
+    for gate in 0..inputs - 1 {
+        rows.push(row(4, 0, 2 * (2 * gate + 1), 2 * (2 * gate + 2), 0));
+    }
+    rows.push(output(2 * (rows.len() - 1), 0, 0));
+    rows
+}
+
+/// What a trace asks for: phases, choices and inputs a group of the fold, and the bytes of a step and
+/// of all choices.
+pub struct TraceSizes {
+    pub phases: usize,
+    pub chosen: usize,
+    pub given: usize,
+    pub unknown: usize,
+    pub inputs: usize,
+}
+
+impl TraceSizes {
+    /// None where the file cannot be folded.
+    pub fn of(file: &[u8], wish: u32) -> Option<TraceSizes> {
+        let (mut result, mut work) = (vec![0; 65_536], vec![0; 49_152]);
+        let mut clocks = vec![Clock { label: 0, period: 0, word: 0, ones: 0 }; 256];
+        let folded = twin::fold(file, wish, &mut result, &mut work, &mut clocks).ok()?;
+        let blocks = (folded.after as usize).div_ceil(63);
+        let [before, after] = [file, &result[..512 * blocks]].map(|f| twin::count(f).unwrap());
+        Some(TraceSizes {
+            phases: folded.phases as usize,
+            chosen: after.unknown as usize,
+            given: after.inputs as usize,
+            unknown: before.unknown as usize,
+            inputs: before.inputs as usize,
+        })
+    }
+
+    /// The bytes of a trace up to a phase of the last group.
+    pub fn bytes(&self, groups: usize, phase: usize) -> usize {
+        self.unknown + (groups.saturating_sub(1) * self.phases + phase + 1) * self.inputs
+    }
+}
+
+/// A trace up to the last phase of so many groups, with random values.
+fn trace_case(name: &str, target: f64, file: Vec<u8>, wish: u32, groups: usize) -> Case {
+    let sizes = TraceSizes::of(&file, wish).expect("a fold");
+    let last = [groups as u32, sizes.phases as u32 - 1];
+    let mut random = Random(21);
+    let (choices, inputs) = (random.bits(sizes.chosen), random.bits(groups * sizes.given));
+    let task = Task::Trace { wish, last, choices, inputs };
+    let trace = vec![0; sizes.bytes(groups, sizes.phases - 1)];
+    Case { trace, ..Case::new(name, target, task, file) }
+}
+
+fn trace_cases(designs: &[(String, Vec<u8>)]) -> Vec<Case> {
+    let tree = encode(&xor_tree(500));
+    let mut cases = vec![
+        trace_case("Trace, 500 inputs x 512", 1.5, tree, 8, 512),
+        trace_case("Trace, sample x 2", 3.0, sample(), 0, 2),
+        trace_case("Trace, sample x 512", 1.5, sample(), 0, 512),
+    ];
+    for (name, file) in designs.iter().filter(|(name, _)| name == "m8_onehot0") {
+        cases.push(trace_case(&format!("Trace, {name} x 512"), 1.5, file.clone(), 0, 512));
+    }
+    cases
+}
+
 /// The wish that a design is measured with.
 pub fn wish_of(design: &str) -> u32 {
     if design == "w8_fold" {
@@ -415,5 +507,6 @@ pub fn all_cases(designs: &[(String, Vec<u8>)]) -> Vec<Case> {
         case.most = Some(3000.0);
         cases.push(case);
     }
+    cases.extend(trace_cases(designs));
     cases
 }

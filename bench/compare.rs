@@ -1,8 +1,8 @@
 //! Compares the library's answers, and all memory lent to it, with the twin's.
 
-use crate::cases::{measured_texts, row_work};
+use crate::cases::{self, measured_texts, row_work, TraceSizes};
 use crate::netlist::{
-    constant, damage, encode, input, output, random_netlist, random_shape, redrawn, register, row,
+    constant, damage, encode, input, output, random_netlist, random_shape, redrawn, register,
     shuffled, Random,
 };
 use crate::texts::{random_text, text_of, STYLES};
@@ -13,7 +13,7 @@ use crate::{edges, library, twin};
 /// library differed.
 #[derive(Default)]
 struct Tally {
-    answered: [usize; 26],
+    answered: [usize; 29],
     differences: usize,
 }
 
@@ -264,6 +264,15 @@ fn compare_fold(tally: &mut Tally, random: &mut Random, file: &[u8], wish: u32) 
     });
 }
 
+/// A file to fold, and a wish.
+fn random_fold(random: &mut Random) -> (Vec<u8>, u32) {
+    let most = if random.one_in(8) { 1300 } else { 400 };
+    let phases = random.one_in(8);
+    let file = random_file(random, most, phases);
+    let wish = if random.one_in(2) { 0 } else { random.below(10) as u32 };
+    (file, wish)
+}
+
 fn compare_folds(files: usize, designs: &[(String, Vec<u8>)]) -> Tally {
     let mut random = Random(3);
     let mut tally = Tally::default();
@@ -277,27 +286,76 @@ fn compare_folds(files: usize, designs: &[(String, Vec<u8>)]) -> Tally {
         compare_fold(&mut tally, &mut random, &file, 0);
     }
     for _ in 0..files {
-        let most = if random.one_in(8) { 1300 } else { 400 };
-        let phases = random.one_in(8);
-        let file = random_file(&mut random, most, phases);
-        let wish = if random.one_in(2) { 0 } else { random.below(10) as u32 };
+        let (file, wish) = random_fold(&mut random);
         compare_fold(&mut tally, &mut random, &file, wish);
+    }
+    tally
+}
+
+/// One to six groups, and sometimes a number at or past a limit.
+fn any_groups(random: &mut Random, sizes: &TraceSizes) -> usize {
+    let few = sizes.phases * sizes.inputs < 500;
+    match random.below(24) {
+        0 => 0,
+        1 => 513,
+        2 if few => 512,
+        3 => u32::MAX as usize,
+        _ => 1 + random.below(6),
+    }
+}
+
+/// A phase, and sometimes one that is not there.
+fn any_phase(random: &mut Random, phases: usize) -> usize {
+    match random.below(24) {
+        0 => phases,
+        1 => u32::MAX as usize,
+        2..=5 => phases - 1,
+        _ => random.below(phases),
+    }
+}
+
+/// Lists of the right lengths, if there may be so many groups; memory and lists are sometimes one off.
+fn compare_trace(tally: &mut Tally, random: &mut Random, file: &[u8], wish: u32) {
+    let none = TraceSizes { phases: 1, chosen: 0, given: 1, unknown: 0, inputs: 1 };
+    let sizes = TraceSizes::of(file, wish).unwrap_or(none);
+    let (groups, phase) = (any_groups(random, &sizes), any_phase(random, sizes.phases));
+    let choices = values(random, sizes.chosen);
+    let inputs = values(random, groups.min(513) * sizes.given);
+    let size = sizes.bytes(groups.min(513), phase.min(8));
+    let result = vec![0xA5; nearly(random, 65_536)];
+    let work = vec![0x5A; nearly(random, 49_152)];
+    let trace = vec![0x3C; nearly(random, size) + 100 * random.below(2)];
+    let [mut mine, mut others] =
+        [(result.clone(), work.clone(), trace.clone()), (result, work, trace)];
+    let last = [groups as u32, phase as u32];
+    let (r, w, t) = (&mut mine.0, &mut mine.1, &mut mine.2);
+    let ours = library::trace(file, wish, last, &choices, &inputs, r, w, t);
+    let (r, w, t) = (&mut others.0, &mut others.1, &mut others.2);
+    let other = twin::trace(file, wish, last, &choices, &inputs, r, w, t);
+    tally.add(&other, ours == other && mine == others, || {
+        let parts = [mine.0 == others.0, mine.1 == others.1, mine.2 == others.2];
+        format!("Trace {ours:?}, twin {other:?}, {last:?}; result, work, trace same: {parts:?}")
+    });
+}
+
+fn compare_traces(files: usize, designs: &[(String, Vec<u8>)]) -> Tally {
+    let mut random = Random(22);
+    let mut tally = Tally::default();
+    for (_, file) in designs {
+        for wish in 0..=9 {
+            compare_trace(&mut tally, &mut random, file, wish);
+        }
+    }
+    for _ in 0..files {
+        let (file, wish) = random_fold(&mut random);
+        compare_trace(&mut tally, &mut random, &file, wish);
     }
     tally
 }
 
 /// The scope paper's sample, and its fold.
 fn sample_is_right() -> bool {
-    let sample = encode(&[
-        constant(),
-        input(0, 0),
-        register(0, 5, 0),
-        register(0, 10, 1),
-        register(0, 12, 2),
-        row(5, 0, 4, 2, 6),
-        row(5, 0, 4, 8, 6),
-        output(8, 0, 0),
-    ]);
+    let sample = cases::sample();
     let folded = encode(&[
         constant(),
         register(0, 6, 1),
@@ -325,6 +383,7 @@ pub fn compare_all(designs: &[(String, Vec<u8>)]) -> usize {
     let imports = compare_imports(10_000);
     let runs = compare_runs(4_000);
     let folds = compare_folds(6_000, designs);
+    let traces = compare_traces(6_000, designs);
     let all = [
         ("Check", checks),
         ("Count", counts),
@@ -333,6 +392,7 @@ pub fn compare_all(designs: &[(String, Vec<u8>)]) -> usize {
         ("Import", imports),
         ("Run", runs),
         ("Fold", folds),
+        ("Trace", traces),
     ];
     for (name, tally) in &all {
         tally.print(name);

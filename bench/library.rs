@@ -28,6 +28,12 @@ struct PfWritten {
 }
 
 #[repr(C)]
+struct PfTraced {
+    refusal: PfRefusal,
+    steps: u32,
+}
+
+#[repr(C)]
 struct PfRefusal {
     number: u32,
     place: u32,
@@ -77,6 +83,23 @@ extern "C" {
         work: *mut u8,
         work_len: usize,
     ) -> PfRefusal;
+    fn pf_trace(
+        file: *const u8,
+        file_len: usize,
+        wish: u32,
+        groups: u32,
+        phase: u32,
+        choices: *const u8,
+        choices_len: usize,
+        inputs: *const u8,
+        inputs_len: usize,
+        result: *mut u8,
+        result_len: usize,
+        work: *mut u8,
+        work_len: usize,
+        trace: *mut u8,
+        trace_len: usize,
+    ) -> PfTraced;
 }
 
 fn answer<T>(refusal: PfRefusal, success: T) -> Result<T, Refusal> {
@@ -164,4 +187,36 @@ pub fn fold(
     };
     let [stem, cycle, phases, used, before, after] = told.numbers;
     answer(told.refusal, Folded { stem, cycle, phases, used, before, after })
+}
+
+pub fn trace(
+    file: &[u8],
+    wish: u32,
+    [groups, phase]: [u32; 2],
+    choices: &[u8],
+    inputs: &[u8],
+    result: &mut [u8],
+    work: &mut [u8],
+    trace: &mut [u8],
+) -> Result<u32, Refusal> {
+    let told = unsafe {
+        pf_trace(
+            file.as_ptr(),
+            file.len(),
+            wish,
+            groups,
+            phase,
+            choices.as_ptr(),
+            choices.len(),
+            inputs.as_ptr(),
+            inputs.len(),
+            result.as_mut_ptr(),
+            result.len(),
+            work.as_mut_ptr(),
+            work.len(),
+            trace.as_mut_ptr(),
+            trace.len(),
+        )
+    };
+    answer(told.refusal, told.steps)
 }

@@ -743,17 +743,26 @@ fn fold_questions(
     Ok(())
 }
 
-pub fn fold(
+/// A fold before it is written: its numbers, the clocks of the original's registers, the original's rows
+/// and its own.
+struct Fold {
+    numbers: Folded,
+    clocks: Vec<Option<Clock>>,
+    rows: Vec<Row>,
+    folded: Vec<Row>,
+}
+
+/// Folds a file, with so much memory lent.
+fn fold_rows(
     file: &[u8],
     wish: u32,
-    result: &mut [u8],
-    work: &mut [u8],
-    list: &mut [Clock],
-) -> Result<Folded, Refusal> {
-    work.fill(0);
+    result: usize,
+    work: usize,
+    list: usize,
+) -> Result<Fold, Refusal> {
     let counts = count(file)?;
     let rows = decode_rows(file);
-    fold_questions(&rows, counts, wish, result.len(), work.len(), list.len())?;
+    fold_questions(&rows, counts, wish, result, work, list)?;
     let (nodes, outputs) = rows.split_at(counts.nodes as usize);
     let registers = places(nodes, REGISTER);
     let lasso = find_lasso(nodes, &registers)?;
@@ -762,18 +771,119 @@ pub fn fold(
     let phases = phase_count(&periods, wish as usize);
     let clocks = clocks_of(nodes, &registers, &lasso, &periods, phases);
     let folded = compact(&unroll(nodes, outputs, &clocks, phases));
-    write_file(&folded, result);
-    for (entry, &clock) in list.iter_mut().zip(clocks.iter().flatten()) {
-        *entry = clock;
-    }
-    Ok(Folded {
+    let numbers = Folded {
         stem: lasso.stem as u32,
         cycle: (lasso.end - lasso.stem) as u32,
         phases: phases as u32,
         used: clocks.iter().flatten().count() as u32,
         before: rows.len() as u32,
         after: folded.len() as u32,
-    })
+    };
+    Ok(Fold { numbers, clocks, rows, folded })
+}
+
+pub fn fold(
+    file: &[u8],
+    wish: u32,
+    result: &mut [u8],
+    work: &mut [u8],
+    list: &mut [Clock],
+) -> Result<Folded, Refusal> {
+    work.fill(0);
+    let fold = fold_rows(file, wish, result.len(), work.len(), list.len())?;
+    write_file(&fold.folded, result);
+    for (entry, &clock) in list.iter_mut().zip(fold.clocks.iter().flatten()) {
+        *entry = clock;
+    }
+    Ok(fold.numbers)
+}
+
+// ---- Trace ----
+
+/// The rows that a run needs a value of: registers that start unknown, or inputs.
+fn valued(rows: &[Row], kind: u8) -> impl Iterator<Item = &Row> {
+    rows.iter().filter(move |row| row.kind == kind && (kind == INPUT || row.reset == 2))
+}
+
+/// A row's label, and an input's phase.
+fn name_of(row: &Row) -> (u16, u16) {
+    if row.kind == INPUT {
+        (row.a, row.b)
+    } else {
+        (row.b, 0)
+    }
+}
+
+/// Of each such row of the original in a phase, the place of its value among the fold's.
+fn columns(fold: &Fold, kind: u8, phases: u16) -> Vec<Vec<Option<usize>>> {
+    let kept: HashMap<(u16, u16), usize> = valued(&fold.folded, kind)
+        .enumerate()
+        .map(|(column, row)| (name_of(row), column))
+        .collect();
+    let column = |row, phase| kept.get(&(name_of(row).0, phase)).copied();
+    (0..phases)
+        .map(|phase| valued(&fold.rows, kind).map(|row| column(row, phase)).collect())
+        .collect()
+}
+
+/// Each value from its column; 0 where there is none.
+fn put_values(columns: &[Option<usize>], values: &[u8], trace: &mut [u8]) {
+    for (byte, column) in trace.iter_mut().zip(columns) {
+        *byte = column.map_or(0, |column| values[column]);
+    }
+}
+
+/// Questions 26 to 28; answers the steps and how many inputs a group has.
+fn trace_questions(
+    fold: &Fold,
+    groups: u32,
+    phase: u32,
+    choices: &[u8],
+    inputs: &[u8],
+    room: usize,
+) -> Result<(usize, usize), Refusal> {
+    let phases = fold.numbers.phases;
+    if !(1..=512).contains(&groups) || phase >= phases {
+        return refuse(26, 0);
+    }
+    let group = valued(&fold.folded, INPUT).count();
+    let lengths = choices.len() == valued(&fold.folded, REGISTER).count()
+        && inputs.len() == groups as usize * group;
+    if !lengths || choices.iter().chain(inputs).any(|&v| v > 1) {
+        return refuse(27, 0);
+    }
+    let steps = ((groups - 1) * phases + phase + 1) as usize;
+    let size = valued(&fold.rows, REGISTER).count() + steps * valued(&fold.rows, INPUT).count();
+    if room < size {
+        return refuse(28, 0);
+    }
+    Ok((steps, group))
+}
+
+pub fn trace(
+    file: &[u8],
+    wish: u32,
+    [groups, phase]: [u32; 2],
+    choices: &[u8],
+    inputs: &[u8],
+    result: &mut [u8],
+    work: &mut [u8],
+    trace: &mut [u8],
+) -> Result<u32, Refusal> {
+    result.fill(0);
+    work.fill(0);
+    let fold = fold_rows(file, wish, result.len(), work.len(), 256)?;
+    let (steps, group) = trace_questions(&fold, groups, phase, choices, inputs, trace.len())?;
+    let chosen = columns(&fold, REGISTER, 1);
+    let (first, rest) = trace.split_at_mut(chosen[0].len());
+    put_values(&chosen[0], choices, first);
+    let phases = fold.numbers.phases as usize;
+    let given = columns(&fold, INPUT, phases as u16);
+    let each = given[0].len();
+    for (step, bytes) in rest.chunks_exact_mut(each.max(1)).take(steps).enumerate() {
+        put_values(&given[step % phases], &inputs[step / phases * group..], bytes);
+    }
+    Ok(steps as u32)
 }
 
 // ---- Sort ----

@@ -1,14 +1,15 @@
-/* phasefold: checks, counts, shows, sorts, folds and runs netlist files, and imports AIGER texts.
+/* phasefold: checks, counts, shows, sorts, folds and runs netlist files, imports AIGER texts, and takes
+ * traces of folded files back.
  *
  * A slice is a pointer and its length. With length 0 the pointer may be NULL; else it is not. All
  * memory is lent by the caller: nothing is allocated, and nothing is kept after the return. A part that
- * is written, `result`, `work` or `clocks`, overlaps no other part of the same call. This is not tested:
- * with parts that overlap, pf_fold has left a wrong netlist and answered number 0.
+ * is written, `result`, `work`, `clocks` or `trace`, overlaps no other part of the same call. This is not
+ * tested: with parts that overlap, pf_fold has left a wrong netlist and answered number 0.
  *
  * Every answer starts with a refusal: the number of the question whose answer was no, and its place
  * (a block for numbers 2 to 5, a row for 6 to 9, 13 and 22, else 0). Both are 0 on success; the answer's
  * other fields are 0 on a refusal. A refusal changes no lent memory but `work`, which is all zero
- * after every return.
+ * after every return. In pf_trace `result` is work, too.
  *
  * A call needs about 150 KiB of stack, pf_import about 400 KiB (`bench/run --stack` measures it; no
  * theorem bounds it). Several threads may call at the same time, as long as nobody else uses what a call
@@ -21,7 +22,7 @@
 #include <stdint.h>
 
 /* Another number for every change of this interface; pf_version() answers the library's own. */
-#define PF_VERSION 5
+#define PF_VERSION 6
 
 /* A block's bytes and rows, and the bytes of the longest file. */
 #define PF_BLOCK_SIZE 512
@@ -47,10 +48,17 @@
 /* The bytes of a file of so many rows, as of the folded file from `after`. */
 #define PF_FILE_SIZE(rows) ((size_t)PF_BLOCK_SIZE * (((size_t)(rows) + PF_BLOCK_ROWS - 1) / PF_BLOCK_ROWS))
 
-/* What pf_fold needs, at least: bytes of `result`, bytes of `work`, entries of `clocks`. */
+/* What pf_fold and pf_trace need, at least: bytes of `result`, bytes of `work`; and pf_fold alone, entries
+ * of `clocks`. */
 #define PF_FOLD_RESULT 65536
 #define PF_FOLD_WORK 49152
 #define PF_FOLD_CLOCKS 256
+
+/* The most groups of a trace, and what pf_trace needs for a file with so many registers that reset to X
+ * and so many inputs, as pf_count tells them: bytes of `trace`. With N phases there are at most
+ * groups * N steps. */
+#define PF_TRACE_GROUPS 512
+#define PF_TRACE_SIZE(unknown, inputs, steps) ((size_t)(unknown) + (size_t)(steps) * (size_t)(inputs))
 
 /* What pf_run and pf_sort need, at least, for a file of so many rows: bytes of `work`. Files of at most
  * 65536 bytes have at most 8064 rows, longer ones more. */
@@ -86,6 +94,9 @@ typedef struct { uint16_t label; uint8_t period, word; uint32_t ones; } pf_clock
 /* The rows of the file that was written. */
 typedef struct { uint32_t number, place, rows; } pf_written;
 
+/* The steps of the trace. */
+typedef struct { uint32_t number, place, steps; } pf_traced;
+
 /* Refusals, by number (B: the place is a block, R: a row):
  *  1    the length is not 512 times 1 to 512 bytes
  *  2 B  the block's 128 words do not sum to 4294967295 modulo 2 to the 32
@@ -101,7 +112,7 @@ typedef struct { uint32_t number, place, rows; } pf_written;
  * 12    more than 256 registers, for a fold
  * 13 R  an input or output of a netlist that is to be folded has a phase that is not 0
  * 14    the wish is above 8
- * 15    the memory that is lent to pf_fold is too small
+ * 15    the memory that is lent to pf_fold, or `result` or `work` of pf_trace, is too small
  * 16    states 0 to 256 of the three-valued run all differ: there is no lasso
  * 17    more than 4096 steps
  * 18    a list of values that has not exactly its length
@@ -112,6 +123,9 @@ typedef struct { uint32_t number, place, rows; } pf_written;
  * 23    the memory that is lent to pf_sort or pf_import is too small
  * 24    the text is no ASCII AIGER as it is taken
  * 25    the text has more than 32256 rows
+ * 26    not 1 to 512 groups, or a phase that the fold does not have
+ * 27    a list of values for the folded file that has not exactly its length, or a value that is not 0 or 1
+ * 28    the memory that is lent for the trace is too small
  */
 
 /* The number of the interface that this library has: PF_VERSION of the header that belongs to it. */
@@ -141,6 +155,20 @@ pf_folded pf_fold(const uint8_t *file, size_t file_len, uint32_t wish, uint8_t *
  * bytes of `work` are needed; PF_RUN_WORK are always enough. Refusals 1 to 10 and 17 to 20. */
 pf_refusal pf_run(const uint8_t *file, size_t file_len, uint32_t steps, const uint8_t *choices, size_t choices_len,
                   const uint8_t *inputs, size_t inputs_len, uint8_t *result, size_t result_len, uint8_t *work, size_t work_len);
+
+/* Takes values for a folded file back to the file itself, which is folded as by pf_fold with this `wish`,
+ * into N phases (`phases` of pf_folded). `choices` and `inputs` are what pf_run takes for the folded file
+ * and `groups` steps: a byte, 0 or 1, for each of its registers that reset to X; one for each of its
+ * inputs, group after group. `trace` gets what pf_run takes for `file` and `steps` steps, the choices and
+ * then the inputs, PF_TRACE_SIZE(unknown, inputs, steps) bytes; what the fold has not kept is 0. Later
+ * bytes of `trace` are unchanged. There are (groups - 1) * N + phase + 1 steps, so that the last one is
+ * `phase` of the last group, and there every output of `file` shows what the folded file's does. `result`
+ * is all zero after every return, as `work` is. At least PF_FOLD_RESULT bytes of `result` and PF_FOLD_WORK
+ * of `work` are needed. Refusals 1 to 16, where 15 asks for no clocks, then 26 (1 to PF_TRACE_GROUPS
+ * groups, a phase below N), 27 (values) and 28 (the memory for the trace). */
+pf_traced pf_trace(const uint8_t *file, size_t file_len, uint32_t wish, uint32_t groups, uint32_t phase,
+                   const uint8_t *choices, size_t choices_len, const uint8_t *inputs, size_t inputs_len,
+                   uint8_t *result, size_t result_len, uint8_t *work, size_t work_len, uint8_t *trace, size_t trace_len);
 
 /* Puts a file whose gates stand in any order into one that the others take: a gate may name any node.
  * The constant comes first, then inputs and registers in row order, then always the lowest-numbered

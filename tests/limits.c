@@ -8,6 +8,8 @@ static uint8_t file[PF_FILE_MAX + PF_BLOCK_SIZE];
 static uint8_t result[PF_IMPORT_RESULT];
 static uint8_t work[PF_IMPORT_WORK];
 static pf_clock clocks[PF_FOLD_CLOCKS];
+static uint8_t values[PF_TRACE_GROUPS + 1];
+static uint8_t trace[PF_TRACE_SIZE(0, 1, 2 * PF_TRACE_GROUPS) + 16];
 static int wrong;
 
 static void expect(const char *name, size_t seen, size_t expected)
@@ -39,6 +41,14 @@ static void fill(uint8_t value)
     memset(result, value, sizeof result);
     memset(work, value, sizeof work);
     memset(clocks, value, sizeof clocks);
+    memset(trace, value, sizeof trace);
+}
+
+static size_t count_of(uint8_t value, const uint8_t *from, size_t length)
+{
+    size_t found = 0;
+    for (size_t k = 0; k < length; k++) found += from[k] == value;
+    return found;
 }
 
 /* What a fold leaves: zeros after the file, which is accepted, and the clock entries after `used` as they were. */
@@ -53,6 +63,61 @@ static void expect_fold(size_t size)
     expect("its rows", pf_count(result, length).nodes + pf_count(result, length).outputs, folded.after);
     expect("zeros after it", zeros, sizeof result - length);
     expect("clock entries that stay", kept, PF_FOLD_CLOCKS - folded.used);
+}
+
+/* The groups, the phase, how many values are given, and what is lent. */
+struct tracing { uint32_t groups, phase; size_t inputs, result, work, trace; };
+
+/* What a trace of the sample answers and leaves. The sample has one input and no X register, and its fold two phases, of which the second keeps the input. Only the trace's own bytes change in its memory; result and work are zero to their ends, and as they were behind them. */
+static void expect_trace(const char *name, size_t size, struct tracing t, size_t number, size_t steps)
+{
+    fill(0xa5);
+    pf_traced traced = pf_trace(file, size, 0, t.groups, t.phase, NULL, 0, values, t.inputs, result, t.result, work, t.work, trace, t.trace);
+    size_t length = PF_TRACE_SIZE(0, 1, steps);
+    expect(name, traced.number, number);
+    expect("the place of a trace's refusal", traced.place, 0);
+    expect("the steps of a trace", traced.steps, steps);
+    expect("bytes that stay after a trace", count_of(0xa5, trace + length, sizeof trace - length), sizeof trace - length);
+    expect("a trace's bytes that are 0 or 1", count_of(0, trace, length) + count_of(1, trace, length), length);
+    expect("zeros in the result of a trace", count_of(0, result, t.result), t.result);
+    expect("zeros in the work of a trace", count_of(0, work, t.work), t.work);
+    expect("bytes behind that result", count_of(0xa5, result + t.result, sizeof result - t.result), sizeof result - t.result);
+    expect("bytes behind that work", count_of(0xa5, work + t.work, sizeof work - t.work), sizeof work - t.work);
+}
+
+/* A trace that starts with the value 1 in group 0, taken back and run; then the limits of its refusals, and their order. */
+static void expect_traces(size_t size)
+{
+    static const uint8_t steps[] = {0, 1, 0, 0}, shown[] = {0, 0, 0, 1};
+    enum { R = PF_FOLD_RESULT, W = PF_FOLD_WORK, G = PF_TRACE_GROUPS };
+    memset(values, 0, sizeof values);
+    values[0] = 1;
+    expect("the size of a trace", PF_TRACE_SIZE(3, 2, 5), 13);
+    expect_trace("a trace, lent more than it needs", size, (struct tracing){2, 1, 2, sizeof result, sizeof work, sizeof trace}, 0, 4);
+    expect_trace("a trace, lent the least", size, (struct tracing){2, 1, 2, R, W, 4}, 0, 4);
+    expect("the trace's values", memcmp(trace, steps, sizeof steps), 0);
+    expect("its run", pf_run(file, size, 4, NULL, 0, trace, 4, result, sizeof result, work, sizeof work).number, 0);
+    expect("what its run shows", memcmp(result, shown, sizeof shown), 0);
+    expect_trace("no group", size, (struct tracing){0, 1, 0, R, W, sizeof trace}, 26, 0);
+    expect_trace("one group", size, (struct tracing){1, 1, 1, R, W, 2}, 0, 2);
+    expect_trace("the most groups", size, (struct tracing){G, 1, G, R, W, 2 * G}, 0, 2 * G);
+    expect_trace("a group more", size, (struct tracing){G + 1, 1, G + 1, R, W, sizeof trace}, 26, 0);
+    expect_trace("the first phase", size, (struct tracing){2, 0, 2, R, W, 3}, 0, 3);
+    expect_trace("a phase more", size, (struct tracing){2, 2, 2, R, W, sizeof trace}, 26, 0);
+    expect_trace("a value more", size, (struct tracing){2, 1, 3, R, W, sizeof trace}, 27, 0);
+    expect_trace("a value less", size, (struct tracing){2, 1, 1, R, W, sizeof trace}, 27, 0);
+    expect_trace("a short trace", size, (struct tracing){2, 1, 2, R, W, 3}, 28, 0);
+    expect_trace("a short result of a trace", size, (struct tracing){2, 1, 2, R - 1, W, 4}, 15, 0);
+    expect_trace("short work of a trace", size, (struct tracing){2, 1, 2, R, W - 1, 4}, 15, 0);
+    expect_trace("15 before 26", size, (struct tracing){0, 1, 2, R - 1, W, 4}, 15, 0);
+    expect_trace("26 before 27", size, (struct tracing){2, 2, 3, R, W, 4}, 26, 0);
+    expect_trace("27 before 28", size, (struct tracing){2, 1, 3, R, W, 3}, 27, 0);
+    expect("a choice more", pf_trace(file, size, 0, 2, 1, values, 1, values, 2, result, R, work, W, trace, 4).number, 27);
+    expect("trace, another wish", pf_trace(file, size, 1, 2, 0, NULL, 0, values, 2, result, R, work, W, trace, 4).steps, 2);
+    expect("trace, a wish above 8", pf_trace(file, size, 9, 2, 1, NULL, 0, values, 2, result, R, work, W, trace, 4).number, 14);
+    values[1] = 2;
+    expect_trace("a value 2", size, (struct tracing){2, 1, 2, R, W, 4}, 27, 0);
+    expect_trace("a value 2 of a later phase", size, (struct tracing){2, 0, 2, R, W, 4}, 27, 0);
 }
 
 static uint8_t *row_at(size_t row)
@@ -230,6 +295,11 @@ static void expect_null(size_t size)
     expect("run of NULL", pf_run(NULL, 0, 0, NULL, 0, NULL, 0, NULL, 0, NULL, 0).number, 1);
     expect("run, no values, result NULL", pf_run(file, size, 0, NULL, 0, NULL, 0, NULL, 0, work, sizeof work).number, 0);
     expect("run, work NULL", pf_run(file, size, 0, NULL, 0, NULL, 0, result, sizeof result, NULL, 0).number, 20);
+    expect("trace of NULL", pf_trace(NULL, 0, 0, 1, 0, NULL, 0, NULL, 0, NULL, 0, NULL, 0, NULL, 0).number, 1);
+    expect("trace, result NULL", pf_trace(file, size, 0, 1, 0, NULL, 0, values, 1, NULL, 0, work, sizeof work, trace, sizeof trace).number, 15);
+    expect("trace, work NULL", pf_trace(file, size, 0, 1, 0, NULL, 0, values, 1, result, sizeof result, NULL, 0, trace, sizeof trace).number, 15);
+    expect("trace, inputs NULL", pf_trace(file, size, 0, 1, 0, NULL, 0, NULL, 0, result, sizeof result, work, sizeof work, trace, sizeof trace).number, 27);
+    expect("trace, trace NULL", pf_trace(file, size, 0, 1, 0, NULL, 0, values, 1, result, sizeof result, work, sizeof work, NULL, 0).number, 28);
 }
 
 int main(int count, char **words)
@@ -239,7 +309,7 @@ int main(int count, char **words)
     size_t size = fread(file, 1, sizeof file, from);
     fclose(from);
 
-    expect("version", PF_VERSION, 5);
+    expect("version", PF_VERSION, 6);
     expect("the library's version", pf_version(), PF_VERSION);
     expect_kinds();
     expect("a file of 1 row", PF_FILE_SIZE(1), PF_BLOCK_SIZE);
@@ -257,6 +327,7 @@ int main(int count, char **words)
     expect("show", pf_show(file, size, 0).size, PF_BLOCK_ROWS * PF_ROW_SIZE);
     expect_fold(size);
     expect_null(size);
+    expect_traces(size);
     expect_sort(size);
     expect_import();
     expect_work(8064, 16384);

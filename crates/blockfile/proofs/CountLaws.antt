@@ -1,41 +1,18 @@
--- Counts of the first elements of a list, a row's sort by its fields, and the counts of rows.
+-- A row's sort by its fields, and the counts of rows.
 -- Assumes nothing.
-use Prim.Native.Nat.{ℕ, zero, suc, _+_, _<_, _≤_}
+use Prim.Native.Nat.{ℕ, zero, suc, _≤_}
 use mathlib.Core.Path.{_≡_, refl, sym, ap, _∙_}
-use mathlib.Core.Bool.{Bool, true, false, cond, not, _&&_}
-use mathlib.Core.List.{List, [], _∷_}
+use mathlib.Core.Bool.{false, not, _&&_}
+use mathlib.Core.List.{List}
 use native.Mathlib.Omega.{arith}
-use native.Mathlib.Numerals.{add-one}
 use lib.Dec.{eqb}
-use lib.ListN.{length, getD, take}
-use lib.Seq.{take-suc, take-length}
+use lib.ListN.{length, take}
+use lib.Seq.{take-length}
 use borrow.Author.Tests.{ne-eqb}
-use Rattle.memory.specs.Lists.{countIf}
-use Rattle.memory.proofs.ListLaws.{count-last}
+use Rattle.memory.proofs.ListLaws.{count-some-le}
 use Rattle.netlist.specs.Rows.{Row, constant, rowFromFields, isInput, isRegister, isUnknown, isOutput}
 use Rattle.questions.specs.Questions.{Counts, countsOf}
 use Rattle.blockfile.specs.CountCode.{EachAtMost}
-
--- ---- the first i elements
-
-module _ {ℓ} {A : Type ℓ} (f : A → Bool) (d : A) where
-  pub count-next : (xs : List A) (i : ℕ) → i < length xs → countIf f (take (i + 1) xs) ≡ countIf f (take i xs) + cond (f (getD xs i d)) 1 0
-  count-next xs i h = rw (add-one i) (ap (countIf f) (take-suc xs i d h) ∙ count-last f (take i xs) (getD xs i d))
-
-  pub count-some-le : (xs : List A) (i : ℕ) → (countIf f (take i xs) ≤ i) × (countIf f (take i xs) ≤ countIf f xs)
-  count-some-le xs zero = (omega arith, omega arith)
-  count-some-le [] (suc i) = (omega arith, omega arith)
-  count-some-le (x ∷ xs) (suc i) = let h = count-some-le xs i in go (f x) (h .0) (h .1)
-    where
-      go : (t : Bool) → countIf f (take i xs) ≤ i → countIf f (take i xs) ≤ countIf f xs → (cond t 1 0 + countIf f (take i xs) ≤ suc i) × (cond t 1 0 + countIf f (take i xs) ≤ cond t 1 0 + countIf f xs)
-      go true h l = (omega arith, omega arith)
-      go false h l = (omega arith, omega arith)
-
-  -- An element that is counted has a place below the whole count.
-  pub count-place : (xs : List A) (i : ℕ) → i < length xs → f (getD xs i d) ≡ true → countIf f (take i xs) < countIf f xs
-  count-place [] i h e = absurd (omega arith)
-  count-place (x ∷ xs) zero h e = rw e (omega arith)
-  count-place (x ∷ xs) (suc i) h e = omega (arith, count-place xs i (omega arith) e)
 
 -- ---- a row's sort by its fields
 

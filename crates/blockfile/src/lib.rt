@@ -1,13 +1,13 @@
 // The rows of a netlist file: where they stand, their fields read and written, and their literals renumbered.
 ghost use mathlib.Core.Path.{_≡_};
 ghost use mathlib.Core.Bool.{cond, _&&_};
-ghost use Prim.Native.Nat.{_+_, _^_, _<_, _≤_};
+ghost use Prim.Native.Nat.{_+_, _*_, _^_, _<_, _≤_};
 ghost use lib.ListN.{length};
 ghost use lib.Dec.{ltb};
 ghost use lib.Seq.{sets};
 ghost use Rattle.memory.specs.Fields.{u16At};
 ghost use Rattle.netlist.specs.Limits.{mostRows};
-ghost use Rattle.netlist.specs.FileFormat.{rowOffset, readFields, fieldBytes};
+ghost use Rattle.netlist.specs.FileFormat.{rowOffset, readFields, fieldBytes, blocksFor};
 ghost use Rattle.blockfile.specs.RowCode.{fieldsIn, fieldsFrom, Small};
 ghost use Rattle.blockfile.specs.Renumbering.{literalCount, renumberFields, renumberIn, HasSlots};
 
@@ -48,6 +48,14 @@ pub fn row_offset(row: usize) -> usize
 {
     let block = row % ROW_NUMBERS / BLOCK_ROWS;
     row * 8 + block * 8 + 4
+}
+
+// The bytes of a file with this many rows.
+pub fn file_bytes(rows: u32) -> usize
+    ensures { λ r. ⌜ r ≡ 512 * blocksFor rows ⌝ }
+{
+    let blocks = (rows as usize + 62) / BLOCK_ROWS;
+    BLOCK_BYTES * blocks
 }
 
 // The field of two bytes at `offset`.

@@ -7,11 +7,16 @@ use Rattle.fold_refusals.specs.FoldRefusals.{foldRefusalIn}
 use Rattle.fold_refusals.specs.declared.FoldRefusal.{FoldRefusal}
 use Rattle.fold_answers.specs.declared.Folding.{Folding}
 use Rattle.fold_answers.specs.declared.Folding.the-variants.{Refused}
-use Rattle.c_answers.specs.AnswerNumbers.{refusalNumbers, refusedCounts, foldedNumbers, writtenNumbers}
+use Rattle.trace_answers.specs.TraceAnswers.{traceRefusalIn}
+use Rattle.trace_answers.specs.declared.TraceRefusal.{TraceRefusal}
+use Rattle.trace_answers.specs.declared.Tracing.{Tracing}
+use Rattle.trace_answers.specs.declared.Tracing.the-variants as trace
+use Rattle.c_answers.specs.AnswerNumbers.{refusalNumbers, refusedCounts, foldedNumbers, writtenNumbers, tracedNumbers}
 use Rattle.c_answers.specs.declared.PfRefusal.{PfRefusal}
 use Rattle.c_answers.specs.declared.PfCounts.{PfCounts}
 use Rattle.c_answers.specs.declared.PfFolded.{PfFolded}
 use Rattle.c_answers.specs.declared.PfWritten.{PfWritten}
+use Rattle.c_answers.specs.declared.PfTraced.{PfTraced}
 
 pub numbers-by : (q : Refusal) (n p : ℕ) (r : PfRefusal) → r ≡ record { number = n; place = p } → n ≡ q .number → p ≡ q .place → r ≡ refusalNumbers q
 numbers-by q n p r e en ep = rw (e, en, ep) refl
@@ -25,3 +30,6 @@ fold-refused a q r e h = rw (h, e) refl
 
 pub unwritten-by : (q : Refusal) (n p : ℕ) (r : PfWritten) → n ≡ q .number → p ≡ q .place → r .number ≡ n → r .place ≡ p → r .rows ≡ 0 → r ≡ writtenNumbers q 0
 unwritten-by q n p r en ep a b c = rw (← en, ← ep, ← a, ← b, ← c) refl
+
+pub trace-refused : (a : Tracing) (q : TraceRefusal) (n p : ℕ) → a ≡ trace.Refused q → n ≡ traceRefusalIn q .number → p ≡ traceRefusalIn q .place → _≡_ {A = PfTraced} (record { number = n; place = p; steps = 0 }) (tracedNumbers a)
+trace-refused a q n p e en ep = rw (e, en, ep) refl

@@ -1,18 +1,21 @@
 -- The answers that C callers get, as numbers: those of the scope paper, "Questions, in order" and "Operations and lent memory".
--- Interface: interfaceNumber, refusalNumbers, acceptedCounts, refusedCounts, foldedNumbers, writtenNumbers.
+-- Interface: interfaceNumber, refusalNumbers, acceptedCounts, refusedCounts, foldedNumbers, writtenNumbers, tracedNumbers.
 -- Assumes nothing.
 use Prim.Native.Nat.{ℕ}
 use Rattle.questions.specs.Questions.{Refusal, Counts}
 use Rattle.fold_answers.specs.FoldAnswers.{foldingRefusal, numbersIn}
 use Rattle.fold_answers.specs.declared.Folding.{Folding}
+use Rattle.trace_answers.specs.TraceAnswers.{tracingRefusal, stepsIn}
+use Rattle.trace_answers.specs.declared.Tracing.{Tracing}
 use Rattle.c_answers.specs.declared.PfRefusal.{PfRefusal}
 use Rattle.c_answers.specs.declared.PfCounts.{PfCounts}
 use Rattle.c_answers.specs.declared.PfFolded.{PfFolded}
 use Rattle.c_answers.specs.declared.PfWritten.{PfWritten}
+use Rattle.c_answers.specs.declared.PfTraced.{PfTraced}
 
 -- Another number for every change of what C callers are compiled with: PF_VERSION of the header.
 abbrev pub interfaceNumber : ℕ
-interfaceNumber = 5
+interfaceNumber = 6
 
 abbrev pub refusalNumbers : Refusal → PfRefusal
 refusalNumbers q = record { number = q .number; place = q .place }
@@ -34,3 +37,7 @@ foldedNumbers a =
 -- The refusal, and the rows of the file that was written.
 abbrev pub writtenNumbers : Refusal → ℕ → PfWritten
 writtenNumbers q n = record { number = q .number; place = q .place; rows = n }
+
+-- The refusal, and the steps of the trace.
+abbrev pub tracedNumbers : Tracing → PfTraced
+tracedNumbers a = let q = tracingRefusal a in record { number = q .number; place = q .place; steps = stepsIn a }

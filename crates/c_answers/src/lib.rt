@@ -10,7 +10,7 @@ ghost use Rattle.fold_refusals.specs.FoldRefusals.{foldRefusalIn};
 ghost use Rattle.show.specs.ShowOutcome.{partOffset};
 ghost use Rattle.import_answers.specs.ImportAnswers.{importRefusalIn};
 ghost use Rattle.sort_answers.specs.SortAnswers.{sortRefusalIn};
-ghost use Rattle.c_answers.specs.AnswerNumbers.{interfaceNumber, refusalNumbers, acceptedCounts, refusedCounts, foldedNumbers, writtenNumbers};
+ghost use Rattle.c_answers.specs.AnswerNumbers.{interfaceNumber, refusalNumbers, acceptedCounts, refusedCounts, foldedNumbers, writtenNumbers, tracedNumbers};
 use accept::FileRefusal;
 use blockfile::count::Counts;
 use fold_answers::Folding;
@@ -18,8 +18,9 @@ use fold_refusals::FoldRefusal;
 use import_answers::ImportRefusal;
 use run_answers::RunRefusal;
 use sort_answers::SortRefusal;
+use trace_answers::Tracing;
 
-const INTERFACE: u32 = 5;
+const INTERFACE: u32 = 6;
 
 // The number of the interface that this library has.
 pub fn interface_number() -> u32
@@ -58,7 +59,7 @@ pub fn run_numbers(refusal: RunRefusal) -> PfRefusal
     )
 }
 
-fn fold_numbers(refusal: FoldRefusal) -> PfRefusal
+pub fn fold_numbers(refusal: FoldRefusal) -> PfRefusal
     ensures { λ r. ⌜ r ≡ refusalNumbers (foldRefusalIn refusal) ⌝ }
 {
     told(
@@ -218,4 +219,29 @@ pub fn unimported(refusal: ImportRefusal) -> PfWritten
     let number = import_answers::number_of(refusal);
     let place = import_answers::place_of(refusal);
     unwritten(number, place)
+}
+
+// A trace that is taken back: how many steps it has.
+#[repr(C)]
+pub struct PfTraced {
+    pub number: u32,
+    pub place: u32,
+    pub steps: u32,
+}
+
+pub fn traced_numbers(answer: Tracing) -> PfTraced
+    ensures { λ r. ⌜ r ≡ tracedNumbers answer ⌝ }
+{
+    match answer {
+        Tracing::Done { steps } => PfTraced {
+            number: 0,
+            place: 0,
+            steps: steps,
+        },
+        Tracing::Refused(refusal) => PfTraced {
+            number: trace_answers::number_of(refusal),
+            place: trace_answers::place_of(refusal),
+            steps: 0,
+        },
+    }
 }

@@ -14,7 +14,7 @@ use lib.ListN.{length, set}
 use lib.Seq.{sets}
 use Rattle.memory.specs.Fields.{IsBytes, byteAt, u16Bytes, u32Bytes}
 use Rattle.memory.specs.Frames.{KeptOutside}
-use Rattle.memory.proofs.ListLaws.{tabulate-length, join-cong, tabulate-cong}
+use Rattle.memory.proofs.ListLaws.{tabulate-length, join-cong, tabulate-cong, count-next, count-place, count-some-le}
 use Rattle.memory.proofs.FieldLaws.{u16-read, u32-read}
 use Rattle.memory.proofs.BufferLaws.{sets-join}
 use Rattle.memory.proofs.FrameLaws.{kept-none, kept-join, kept-sets, sets-at}
@@ -29,7 +29,6 @@ use Rattle.lasso.proofs.ClockLaws.{word-lt, entries-count}
 use Rattle.lasso.proofs.GeneratorLaws.{periods-length}
 use Rattle.blockfile.specs.RowCode.{fieldsIn}
 use Rattle.blockfile.specs.declared.Fields.{Fields}
-use Rattle.blockfile.proofs.CountLaws.{count-next, count-place, count-some-le}
 use Rattle.blockfile.specs.Ready.{Ready}
 use Rattle.ternary_step.specs.StateMap.{registersBefore, AtRow}
 use Rattle.ternary_step.proofs.StepLaws.{row-within, number-small, register-is, register-at}

@@ -17,7 +17,7 @@ use Rattle.memory.specs.Lists.{countIf}
 use Rattle.memory.specs.Fields.{byteAt}
 use Rattle.memory.specs.Frames.{KeptOutside}
 use Rattle.memory.proofs.TestLaws.{and-true, last-or, cond-case}
-use Rattle.memory.proofs.ListLaws.{allBelow-at, tabulate-at}
+use Rattle.memory.proofs.ListLaws.{allBelow-at, tabulate-at, count-place}
 use Rattle.memory.proofs.FrameLaws.{kept-sets, sets-at}
 use Rattle.ternary.specs.Ternary.{Ternary, lo, hi, X, codeOf, valueOf, isKnown}
 use Rattle.ternary.proofs.RuleLaws.{value-of-code}
@@ -28,7 +28,6 @@ use Rattle.lasso.specs.Generators.{stateValue, isGenerator, periodOf, periodsOf
 use Rattle.lasso.specs.ClockEntries.{valueBit, clockWord}
 use Rattle.lasso.proofs.GeneratorLaws.{period-other, period-is, generator-le}
 use Rattle.lasso.proofs.ClockLaws.{word-lt, word-bit}
-use Rattle.blockfile.proofs.CountLaws.{count-place}
 use Rattle.ternary_step.specs.StateMap.{codeAt, registersBefore, stateCodes, AtRow}
 use Rattle.ternary_step.proofs.CodeLaws.{packed-kept}
 use Rattle.ternary_step.proofs.StepLaws.{row-small}

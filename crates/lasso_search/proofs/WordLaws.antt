@@ -11,7 +11,7 @@ use lib.ListN.{length}
 use lib.Seq.{ext-getD}
 use Rattle.memory.specs.Lists.{allBelow, countIf}
 use Rattle.memory.specs.Fields.{IsBytes, byteAt, u32At, u32Bytes}
-use Rattle.memory.proofs.ListLaws.{allBelow-at, allBelow-of, allBelow-no}
+use Rattle.memory.proofs.ListLaws.{allBelow-at, allBelow-of, allBelow-no, count-place}
 use Rattle.memory.proofs.FieldLaws.{u32-small, u32-read, u32-write}
 use Rattle.ternary.specs.Ternary.{Ternary, lo, codeOf, valueOf}
 use Rattle.ternary.proofs.RuleLaws.{value-of-code}
@@ -21,7 +21,6 @@ use Rattle.lasso.specs.TernaryRun.{ternaryState}
 use Rattle.lasso.specs.LassoSearch.{equalStates}
 use Rattle.lasso.specs.Generators.{stateValue}
 use Rattle.lasso.proofs.LassoLaws.{states-equal, states-same}
-use Rattle.blockfile.proofs.CountLaws.{count-place}
 use Rattle.ternary_step.specs.StateMap.{pairOf, codeAt, Packed, registersBefore, stateCodes, Stored}
 use Rattle.ternary_step.proofs.CodeLaws.{packed-at, packed-bytes}
 use Rattle.ternary_step.proofs.RegisterLaws.{codes-at, state-other, state-length}

@@ -2,8 +2,8 @@
 ghost use mathlib.Core.Path.{_≡_};
 ghost use Prim.Native.Nat.{_*_, _≤_};
 ghost use lib.ListN.{length};
-ghost use Rattle.netlist.specs.FileFormat.{blocksFor};
 use blockfile::Fields;
+pub use blockfile::file_bytes;
 use text::bytes::get;
 use text::bytes::wide;
 use text::out::Out;
@@ -32,14 +32,6 @@ pub fn row_count(file: &[u8]) -> usize {
     let last = last_block(file);
     let at = 512 * last + 2;
     63 * last + wide(get(file, at))
-}
-
-// The bytes of a file with this many rows.
-pub fn file_bytes(rows: u32) -> usize
-    ensures { λ r. ⌜ r ≡ 512 * blocksFor rows ⌝ }
-{
-    let blocks = (rows as usize + 62) / 63;
-    512 * blocks
 }
 
 // The fields of a row.

@@ -9,8 +9,8 @@ use native.Mathlib.Omega.{arith}
 use native.Mathlib.Numerals.{add-one}
 use native.Mathlib.Decide.{decLt}
 use native.Mathlib.Nat.{mul-suc, mul-le-mul-left}
-use lib.ListN.{length, getD, length-append, List·getD-append}
-use lib.Seq.{getD-at, getD-append-add}
+use lib.ListN.{length, getD, take, length-append, List·getD-append}
+use lib.Seq.{take-suc, getD-at, getD-append-add}
 use Rattle.memory.specs.Lists.{allBelow, joinBelow, tabulate, firstFrom, countIf}
 use Rattle.memory.proofs.TestLaws.{and-true, fails, last-or, cond-case}
 
@@ -159,3 +159,22 @@ module _ {ℓ} {A : Type ℓ} (f : A → Bool) (d : A) where
       go : (t : Bool) → f y ≡ t → 0 < cond t (suc zero) zero + countIf f ys → (0 < countIf f ys → (x : ℕ) × (x < length ys) × (f (getD ys x d) ≡ true)) → (x : ℕ) × (x < suc (length ys)) × (f (getD (y ∷ ys) x d) ≡ true)
       go true e k ih = (0, omega arith, e)
       go false e k ih = let q = ih (omega arith) in (suc (q .0), omega (arith, q .1), q .2)
+
+  -- Of the first i elements.
+  pub count-next : (xs : List A) (i : ℕ) → i < length xs → countIf f (take (i + 1) xs) ≡ countIf f (take i xs) + cond (f (getD xs i d)) 1 0
+  count-next xs i h = rw (add-one i) (ap (countIf f) (take-suc xs i d h) ∙ count-last f (take i xs) (getD xs i d))
+
+  pub count-some-le : (xs : List A) (i : ℕ) → (countIf f (take i xs) ≤ i) × (countIf f (take i xs) ≤ countIf f xs)
+  count-some-le xs zero = (omega arith, omega arith)
+  count-some-le [] (suc i) = (omega arith, omega arith)
+  count-some-le (x ∷ xs) (suc i) = let h = count-some-le xs i in go (f x) (h .0) (h .1)
+    where
+      go : (t : Bool) → countIf f (take i xs) ≤ i → countIf f (take i xs) ≤ countIf f xs → (cond t 1 0 + countIf f (take i xs) ≤ suc i) × (cond t 1 0 + countIf f (take i xs) ≤ cond t 1 0 + countIf f xs)
+      go true h l = (omega arith, omega arith)
+      go false h l = (omega arith, omega arith)
+
+  -- An element that is counted has a place below the whole count.
+  pub count-place : (xs : List A) (i : ℕ) → i < length xs → f (getD xs i d) ≡ true → countIf f (take i xs) < countIf f xs
+  count-place [] i h e = absurd (omega arith)
+  count-place (x ∷ xs) zero h e = rw e (omega arith)
+  count-place (x ∷ xs) (suc i) h e = omega (arith, count-place xs i (omega arith) e)

@@ -60,3 +60,7 @@ importResultBytes = 262144
 
 abbrev pub importWorkBytes : ℕ
 importWorkBytes = 196608
+
+-- Question 26: the groups of a trace that is taken back.
+abbrev pub mostGroups : ℕ
+mostGroups = 512

@@ -1,5 +1,5 @@
 -- Rows, their fields, names and literals: the scope paper, "The netlist file".
--- Interface: Row, RowFields, encodeRow, decodeRow, rowAt, kindOf, onRegister, onOutput, isInput, isRegister, isUnknown, isOutput, labelOf, phaseOf, hasName, isNamed, rowNamed, HasInput, HasRegister, HasUnknown, HasOutput, literalsOf, faninNodes, mapLiterals.
+-- Interface: Row, RowFields, encodeRow, decodeRow, rowAt, kindOf, onRegister, onOutput, isInput, isRegister, isUnknown, isOutput, labelOf, phaseOf, hasName, isNamed, rowNamed, hasRow, isUnknownNamed, HasInput, HasRegister, HasUnknown, HasOutput, literalsOf, faninNodes, mapLiterals.
 -- Assumes nothing.
 use Prim.Native.Nat.{ℕ, zero, suc, _/_}
 use mathlib.Core.Path.{_≡_}
@@ -126,8 +126,11 @@ abbrev pub rowNamed : ℕ → ℕ → ℕ → List Row → ℕ
 rowNamed k l p rows = firstRow (isNamed k l p) rows
 
 -- The netlist has a row that passes the test: an input of this label and phase, a register or an X register of this label, an output of this label and phase.
+abbrev pub hasRow : (Row → Bool) → List Row → Bool
+hasRow f rows = ltb (firstRow f rows) (length rows)
+
 abbrev pub HasRow : (Row → Bool) → List Row → Type 0
-HasRow f rows = ltb (firstRow f rows) (length rows) ≡ true
+HasRow f rows = hasRow f rows ≡ true
 
 abbrev pub HasInput : List Row → ℕ → ℕ → Type 0
 HasInput rows l p = HasRow (isNamed 1 l p) rows
@@ -135,8 +138,11 @@ HasInput rows l p = HasRow (isNamed 1 l p) rows
 abbrev pub HasRegister : List Row → ℕ → Type 0
 HasRegister rows l = HasRow (isNamed 2 l 0) rows
 
+abbrev pub isUnknownNamed : ℕ → Row → Bool
+isUnknownNamed l r = isUnknown r && eqb (labelOf r) l
+
 abbrev pub HasUnknown : List Row → ℕ → Type 0
-HasUnknown rows l = HasRow (λ r. isUnknown r && eqb (labelOf r) l) rows
+HasUnknown rows l = HasRow (isUnknownNamed l) rows
 
 abbrev pub HasOutput : List Row → ℕ → ℕ → Type 0
 HasOutput rows l p = HasRow (isNamed 6 l p) rows

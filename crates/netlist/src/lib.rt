@@ -30,6 +30,9 @@ pub const LAST_STATE: usize = 256;
 // Run's steps.
 pub const MOST_STEPS: usize = 4096;
 
+// The groups of a trace that is taken back.
+pub const MOST_GROUPS: u32 = 512;
+
 // What Import is lent.
 pub const IMPORT_RESULT_BYTES: usize = 262144;
 

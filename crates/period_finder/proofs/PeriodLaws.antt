@@ -15,7 +15,7 @@ use lib.Seq.{getD-set-same, getD-set-other}
 use Rattle.memory.specs.Lists.{allBelow, firstFrom, countIf}
 use Rattle.memory.specs.Fields.{byteAt}
 use Rattle.memory.proofs.TestLaws.{fails, last-or}
-use Rattle.memory.proofs.ListLaws.{allBelow-more, allBelow-no, first-none, first-found}
+use Rattle.memory.proofs.ListLaws.{allBelow-more, allBelow-no, first-none, first-found, count-place}
 use Rattle.ternary.specs.Ternary.{codeOf, equal3, isKnown}
 use Rattle.netlist.specs.Limits.{mostPhases, mostOriginalRegisters, lastState}
 use Rattle.netlist.specs.Rows.{Row, rowAt, decodeRow, isRegister, constant}
@@ -25,7 +25,6 @@ use Rattle.lasso.proofs.LassoLaws.{IsLasso, lasso-is}
 use Rattle.lasso.proofs.GeneratorLaws.{period-other, period-is, period-none}
 use Rattle.blockfile.specs.RowCode.{fieldsIn}
 use Rattle.blockfile.specs.declared.Fields.{Fields}
-use Rattle.blockfile.proofs.CountLaws.{count-place}
 use Rattle.ternary_step.specs.StateMap.{codeAt, registersBefore, stateCodes, AtRow}
 use Rattle.ternary_step.proofs.CodeLaws.{packed-at}
 use Rattle.ternary_step.proofs.RegisterLaws.{codes-at}

@@ -13,6 +13,7 @@ pub enum Command {
     Fold,
     Clocks,
     Run,
+    Trace,
     Unknown,
 }
 
@@ -35,6 +36,9 @@ fn command_of_two_files(word: &[u8]) -> Command {
     }
     if same(word, b"run") {
         return Command::Run;
+    }
+    if same(word, b"trace") {
+        return Command::Trace;
     }
     Command::Unknown
 }

@@ -1,4 +1,4 @@
-// The command pf: Check, Count, Show, Sort, Fold and Run of netlist files, their rows as text and back, AIGER text in, and clocks drawn.
+// The command pf: Check, Count, Show, Sort, Fold, Run and Trace of netlist files, their rows as text and back, AIGER text in, and clocks drawn.
 // The script that starts it opens descriptor 3, to which its outcome goes as a digit, and those of a result that is kept (`saving`).
 mod call;
 
@@ -12,6 +12,26 @@ use text::bytes::first;
 use text::bytes::same;
 use text::either;
 use text::files::Loaded;
+
+// A trace, whose phase, values and last word are words 5 to 7 of the call.
+fn trace(count: usize, path: &[u8], file: &[u8], wish: &[u8], groups: &[u8]) -> Outcome {
+    let mut phase = io::buffer();
+    let mut values = io::buffer();
+    let mut last = io::buffer();
+    let phase_size = os::arg(5, &mut phase);
+    let values_size = os::arg(6, &mut values);
+    let last_size = os::arg(7, &mut last);
+    pf_traces::trace(
+        count,
+        path,
+        file,
+        wish,
+        groups,
+        &phase[..phase_size],
+        &values[..values_size],
+        &last[..last_size],
+    )
+}
 
 // The commands that take a netlist file, its bytes read; `count` is how many words come after the command's name.
 fn answer(
@@ -31,6 +51,7 @@ fn answer(
         Command::Fold => pf_runs::folding::fold(count, path, file, second, third),
         Command::Clocks => pf_runs::folding::clocks(count, path, file, second),
         Command::Run => pf_runs::run::run(path, file, second, third),
+        Command::Trace => trace(count, path, file, second, third),
         _ => fail(b"no such command\n"),
     }
 }
@@ -63,17 +84,25 @@ fn perform_on_file(
     read_and_answer(command, count, path, second, third, &mut room)
 }
 
-// Whether both files of a run are to be read from standard input.
-fn reads_twice(command: Command, path: &[u8], third: &[u8]) -> bool {
+// Whether word `index` of the call stands for standard input.
+fn is_input(index: usize) -> bool {
+    let mut word = io::buffer();
+    let size = os::arg(index, &mut word);
+    same(&word[..size], b"-")
+}
+
+// Whether both the file and the values of a run or a trace are to be read from standard input.
+fn reads_twice(command: Command) -> bool {
     match command {
-        Command::Run => both(same(path, b"-"), same(third, b"-")),
+        Command::Run => both(is_input(2), is_input(4)),
+        Command::Trace => both(is_input(2), is_input(6)),
         _ => false,
     }
 }
 
 // A command, unless it would read standard input twice.
 fn perform(command: Command, count: usize, path: &[u8], second: &[u8], third: &[u8]) -> Outcome {
-    if reads_twice(command, path, third) {
+    if reads_twice(command) {
         return fail(b"FILE and VALUES cannot both be standard input\n");
     }
     match command {
@@ -90,11 +119,12 @@ fn is_too_long(index: usize) -> bool {
     os::errno() == libc::ENAMETOOLONG
 }
 
-// Whether one of the four words is.
+// Whether one of the seven words is.
 fn any_too_long() -> bool {
     let early = either(is_too_long(1), is_too_long(2));
-    let late = either(is_too_long(3), is_too_long(4));
-    either(early, late)
+    let middle = either(is_too_long(3), is_too_long(4));
+    let late = either(is_too_long(5), either(is_too_long(6), is_too_long(7)));
+    either(early, either(middle, late))
 }
 
 // What the call's first word asks for.

@@ -1,7 +1,8 @@
-// A refusal told: its line on standard output, and on standard error a sentence that says what is wrong where, with the values seen.
+// A refusal told: its line on standard output, and on standard error a sentence that says what is wrong where, with the values seen; and the values of a run.
 
 pub mod loop_causes;
 pub mod text_causes;
+pub mod values;
 
 use accept::Acceptance;
 use c_answers::PfCounts;

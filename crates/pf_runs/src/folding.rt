@@ -1,8 +1,6 @@
 // Fold, its answers and clocks as lines, and its clocks drawn.
-use c_answers::PfRefusal;
 use fold_answers::FoldNumbers;
 use fold_answers::Folding;
-use fold_refusals::FoldRefusal;
 use listing::folds::CLOCK_ENTRIES;
 use listing::folds::Entry;
 use listing::folds::entry_of;
@@ -27,18 +25,6 @@ use text::out::to;
 
 // Where a drawing begins in its line.
 const COLUMN: usize = 22;
-
-// ---- refusals
-
-// The refusal's number and place.
-fn refusal_of(refusal: FoldRefusal) -> PfRefusal {
-    let number = fold_refusals::number_of(refusal);
-    let place = fold_refusals::place_of(refusal);
-    PfRefusal {
-        number: number,
-        place: place,
-    }
-}
 
 // ---- the answers
 
@@ -182,7 +168,7 @@ fn fold_by(
     let mut work = work_room();
     match fold_into(file, wish, &mut result, &mut work) {
         Folding::Done(numbers) => tell_wanted(wanted, numbers, &work, &result, kept),
-        Folding::Refused(refusal) => refuse(path, 0, file, refusal_of(refusal), word),
+        Folding::Refused(refusal) => refuse(path, 0, file, c_answers::fold_numbers(refusal), word),
     }
 }
 

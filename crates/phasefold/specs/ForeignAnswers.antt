@@ -1,5 +1,5 @@
 -- The entire outcome of each operation as C callers get it: the scope paper, "Questions, in order" and "Operations and lent memory", and the change requests.
--- Interface: countNumbers, ShownFlat, RanFlat, FoldedFlat, SortedFlat, ImportedFlat; Check's is `refusalNumbers` of `fileRefusal`.
+-- Interface: countNumbers, ShownFlat, RanFlat, FoldedFlat, SortedFlat, ImportedFlat, TracedFlat; Check's is `refusalNumbers` of `fileRefusal`.
 -- Assumes nothing.
 use Prim.Native.Nat.{ℕ}
 use mathlib.Core.Path.{_≡_}
@@ -22,12 +22,15 @@ use Rattle.sort_answers.specs.declared.Sorting.{Sorting}
 use Rattle.import_answers.specs.ImportAnswers as imports
 use Rattle.import_answers.specs.ImportOutcome.{Imported}
 use Rattle.import_answers.specs.declared.Importing.{Importing}
-use Rattle.c_answers.specs.AnswerNumbers.{refusalNumbers, acceptedCounts, refusedCounts, foldedNumbers, writtenNumbers}
+use Rattle.trace_answers.specs.Traced.{Traced}
+use Rattle.trace_answers.specs.declared.Tracing.{Tracing}
+use Rattle.c_answers.specs.AnswerNumbers.{refusalNumbers, acceptedCounts, refusedCounts, foldedNumbers, writtenNumbers, tracedNumbers}
 use Rattle.c_answers.specs.declared.PfRefusal.{PfRefusal}
 use Rattle.c_answers.specs.declared.PfCounts.{PfCounts}
 use Rattle.c_answers.specs.declared.PfShown.{PfShown}
 use Rattle.c_answers.specs.declared.PfFolded.{PfFolded}
 use Rattle.c_answers.specs.declared.PfWritten.{PfWritten}
+use Rattle.c_answers.specs.declared.PfTraced.{PfTraced}
 
 abbrev pub countNumbers : List ℕ → PfCounts
 countNumbers file = unlessRefused (fileRefusal file) (acceptedCounts (countsOf (netlistOf file))) (refusedCounts (fileRefusal file))
@@ -61,3 +64,9 @@ pub record ImportedFlat (text result result′ work work′ : List ℕ) (r : PfW
   pub answer : Importing
   pub imported : Imported text result result′ work work′ answer
   pub flat : r ≡ writtenNumbers (imports.importingRefusal answer) (imports.rowsIn answer)
+
+-- Trace's outcome, with its answer as numbers.
+pub record TracedFlat (file : List ℕ) (wish G k : ℕ) (choices inputs result result′ work work′ trace trace′ : List ℕ) (r : PfTraced) : Type 0 where
+  pub answer : Tracing
+  pub traced : Traced file wish G k choices inputs result result′ work work′ trace trace′ answer
+  pub flat : r ≡ tracedNumbers answer

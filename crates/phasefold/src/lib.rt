@@ -1,4 +1,4 @@
-// The phase folder's public library: Check, Count, Show, Sort, Import, Run and Fold, and a file for each with its export to C, where a slice is a pointer and a length, and one for the interface's number.
+// The phase folder's public library: Check, Count, Show, Sort, Import, Run, Fold and Trace, and a file for each with its export to C, where a slice is a pointer and a length, and one for the interface's number.
 pub use accept::Acceptance;
 pub use accept::FileRefusal;
 pub use accept::accept as check;
@@ -20,6 +20,9 @@ pub use show::show;
 pub use sort::sort;
 pub use sort_answers::SortRefusal;
 pub use sort_answers::Sorting;
+pub use trace::trace;
+pub use trace_answers::TraceRefusal;
+pub use trace_answers::Tracing;
 
 pub mod c_check;
 pub mod c_count;
@@ -28,4 +31,5 @@ pub mod c_import;
 pub mod c_run;
 pub mod c_show;
 pub mod c_sort;
+pub mod c_trace;
 pub mod c_version;

@@ -70,6 +70,12 @@ pub fn rows_of(file: &[u8]) -> usize {
     63 * before + last
 }
 
+// The bytes of a file of so many rows.
+pub fn length_of(rows: u32) -> usize {
+    let blocks = (rows % 65536 + 62) / 63;
+    512 * blocks as usize
+}
+
 // The work that Run and Sort are lent for so many rows.
 pub fn work_for(rows: usize) -> usize {
     if rows > 8064 { 65536 } else { 16384 }

@@ -7,7 +7,7 @@ use reference_rows::rows::row_at;
 use reference_rows::rows::rows_of;
 
 // How many registers start unknown.
-fn count_unknown(file: &[u8], rows: usize) -> usize {
+pub fn count_unknown(file: &[u8], rows: usize) -> usize {
     let mut count: usize = 0;
     'rows: for at in 0..rows {
         if crate::steps::chosen(row_at(file, at)) {
@@ -18,7 +18,7 @@ fn count_unknown(file: &[u8], rows: usize) -> usize {
 }
 
 // Whether each value is 0 or 1.
-fn all_bits(values: &[u8]) -> bool {
+pub fn all_bits(values: &[u8]) -> bool {
     let size = values.len();
     'values: for at in 0..size {
         if byte(values, at) > 1 {
@@ -29,7 +29,7 @@ fn all_bits(values: &[u8]) -> bool {
 }
 
 // So many rows in each of the steps, of which there are at most 4,096.
-fn in_all(steps: usize, rows: usize) -> usize {
+pub fn in_all(steps: usize, rows: usize) -> usize {
     (steps % 4097) * (rows % 65536)
 }
 

@@ -10,11 +10,10 @@ use lib.Dec.{eqb, ltb}
 use lib.ListN.{length, take}
 use borrow.Author.Tests.{lt-ltb, le-ltb, ne-eqb}
 use Rattle.memory.specs.Lists.{countIf}
-use Rattle.memory.proofs.ListLaws.{count-le}
+use Rattle.memory.proofs.ListLaws.{count-le, count-next, count-some-le}
 use Rattle.netlist.specs.Limits.{mostRows}
 use Rattle.netlist.specs.Rows.{Row, constant, rowAt, isInput, isRegister, isUnknown, isOutput}
 use Rattle.questions.specs.Questions.{Counts, countsOf}
-use Rattle.blockfile.proofs.CountLaws.{count-next, count-some-le}
 use Rattle.row_questions.specs.Tally.{outputTally, tallied, rowTally, tallyOf, countsFrom}
 use Rattle.row_questions.specs.RowTested.{onlyNodes}
 use Rattle.row_questions.proofs.NameLaws.{and-yes}

@@ -30,7 +30,7 @@ enum RunPlan {
 }
 
 // 19, of one list.
-fn all_binary(values: &[u8]) -> bool
+pub fn all_binary(values: &[u8]) -> bool
     ensures { λ r. ⌜ r ≡ allBinary (now (values .entry)) ⌝ }
 {
     let mut binary = true;

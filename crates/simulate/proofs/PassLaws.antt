@@ -13,7 +13,7 @@ use lib.Seq.{sets, length-sets, take-all}
 use borrow.Author.Tests.{eq-eqb}
 use Rattle.memory.specs.Lists.{countIf}
 use Rattle.memory.specs.Fields.{byteAt}
-use Rattle.memory.proofs.ListLaws.{tabulate-at}
+use Rattle.memory.proofs.ListLaws.{tabulate-at, count-next, count-some-le, count-place}
 use Rattle.memory.proofs.FrameLaws.{kept-sets, sets-at}
 use Rattle.netlist.specs.Rows.{Row, constant, input, register, andGate, xorGate, muxGate, output, rowAt, isInput, isUnknown}
 use Rattle.netlist.specs.FileFormat.{rowOffset, netlistOf}
@@ -22,7 +22,6 @@ use Rattle.netlist.specs.RunLayout.{placeAmong}
 use Rattle.netlist.specs.WellFormed.{NextBelow, CheckedRows}
 use Rattle.netlist.proofs.RowLaws.{next-wider}
 use Rattle.netlist.proofs.SimulationLaws.{literal-cong, row-cong, values-length}
-use Rattle.blockfile.proofs.CountLaws.{count-next, count-some-le, count-place}
 use Rattle.blockfile.specs.Ready.{Ready}
 use Rattle.row_values.specs.Values.{IsBinary, bit, truthAt, bitFrom, bitByte, bitBytes, heldIn, valueIn, RowToRun}
 use Rattle.row_values.specs.declared.Step.{Step}

@@ -12,7 +12,7 @@ use lib.ListN.{length, take, drop, length-append, length-drop, length-map, List�
 use lib.Seq.{sets, length-sets, getD-drop, take-suc, take-length, ext-getD}
 use Rattle.memory.specs.Lists.{countIf, joinBelow, tabulate}
 use Rattle.memory.specs.Fields.{byteAt}
-use Rattle.memory.proofs.ListLaws.{join-length, tabulate-length, tabulate-at}
+use Rattle.memory.proofs.ListLaws.{join-length, tabulate-length, tabulate-at, count-next}
 use Rattle.memory.proofs.BufferLaws.{sets-join}
 use Rattle.memory.proofs.FrameLaws.{sets-at}
 use Rattle.netlist.specs.Limits.{mostRows, mostSteps}
@@ -23,7 +23,6 @@ use Rattle.netlist.specs.RunLayout.{valuesFromBytes, stepBytes, runBytes}
 use Rattle.netlist.proofs.RowLaws.{output-is}
 use Rattle.netlist.proofs.SimulationLaws.{values-length}
 use Rattle.netlist.specs.WellFormed.{CheckedRows}
-use Rattle.blockfile.proofs.CountLaws.{count-next}
 use Rattle.blockfile.specs.Ready.{Ready}
 use Rattle.row_values.specs.Values.{bit, bitFrom, bitByte, bitBytes}
 use Rattle.row_values.specs.declared.Step.{Step}

@@ -9,6 +9,7 @@ use lib.Dec.{eqb}
 use lib.ListN.{length, set, length-set}
 use lib.Seq.{sets}
 use Rattle.memory.specs.Fields.{byteAt}
+use Rattle.memory.proofs.ListLaws.{count-some-le}
 use Rattle.netlist.specs.Rows.{constant, rowAt, isInput}
 use Rattle.netlist.specs.FileFormat.{rowOffset, netlistOf}
 use Rattle.netlist.specs.RunLayout.{placeAmong}
@@ -17,7 +18,6 @@ use Rattle.blockfile.specs.RowCode.{ifKnown}
 use Rattle.blockfile.specs.BlockRows.{BlockStart, BlockRows}
 use Rattle.blockfile.specs.Ready.{Ready}
 use Rattle.blockfile.proofs.RowCodeLaws.{kind-known}
-use Rattle.blockfile.proofs.CountLaws.{count-some-le}
 use Rattle.blockfile.proofs.BlockRowsLaws.{start-first, start-next, whole-more, block-whole, block-rest, first-most, RowsWalked, walk-none, walk-within, walk-offset, walk-small, walk-more, walk-all}
 use Rattle.row_values.specs.Values.{bitByte, bitBytes, noValue, valueIn, RowInStep}
 use Rattle.row_values.specs.declared.Step.{Step}

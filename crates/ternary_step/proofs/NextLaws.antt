@@ -11,7 +11,7 @@ use Rattle.memory.specs.Lists.{countIf}
 use Rattle.memory.specs.Fields.{IsBytes, byteAt, u16At}
 use Rattle.memory.specs.Frames.{KeptOutside}
 use Rattle.memory.proofs.TestLaws.{last-or}
-use Rattle.memory.proofs.ListLaws.{tabulate-length}
+use Rattle.memory.proofs.ListLaws.{tabulate-length, count-place}
 use Rattle.memory.proofs.FrameLaws.{kept-set, kept-join, u16-kept}
 use Rattle.ternary.specs.Ternary.{codeOf, valueOf}
 use Rattle.ternary.proofs.RuleLaws.{value-of-code}
@@ -22,7 +22,6 @@ use Rattle.lasso.specs.TernaryRun.{ternaryLogic}
 use Rattle.netlist.specs.WellFormed.{FoldableRows}
 use Rattle.netlist.proofs.SimulationLaws.{literal-cong}
 use Rattle.lasso.specs.Generators.{stateValue}
-use Rattle.blockfile.proofs.CountLaws.{count-place}
 use Rattle.fold_memory.specs.WorkMap.{valueOffset, nextOffset, stateBytes, stateOffset}
 use Rattle.ternary_step.specs.StateMap.{Packed, registersBefore, nextOf, stateCodes, Stored, valueIn, stepValue, Valued, Coded, literalIn, Evaluated, NextsListed, NextReady, shownCodes, Searched}
 use Rattle.ternary_step.proofs.CodeLaws.{packed-small, packed-more}

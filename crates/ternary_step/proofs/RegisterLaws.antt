@@ -13,6 +13,7 @@ use lib.ListN.{length, getD, length-append, List·getD-append, length-map}
 use lib.Seq.{take-length, getD-at}
 use Rattle.memory.specs.Lists.{countIf}
 use Rattle.memory.proofs.TestLaws.{last-or}
+use Rattle.memory.proofs.ListLaws.{count-next}
 use Rattle.ternary.specs.Ternary.{Ternary, lo, X, not3, codeOf}
 use Rattle.netlist.specs.Rows.{Row, constant, input, register, andGate, xorGate, muxGate, output, rowFromFields, rowAt, onRegister, isRegister}
 use Rattle.netlist.specs.Simulation.{Logic, rowValue, startBy, runState}
@@ -20,7 +21,6 @@ use Rattle.lasso.specs.TernaryRun.{ternaryLogic, ternaryState}
 use Rattle.netlist.specs.WellFormed.{Ordered}
 use Rattle.netlist.proofs.SimulationLaws.{held, state-at, value-at}
 use Rattle.lasso.specs.Generators.{stateValue}
-use Rattle.blockfile.proofs.CountLaws.{count-next}
 use Rattle.ternary_step.specs.StateMap.{registersBefore, nextOf, stateCodes, stepValue}
 
 -- ---- rows by kind

@@ -17,6 +17,7 @@ use Rattle.memory.specs.Fields.{IsBytes, byteAt, u16Bytes}
 use Rattle.memory.specs.Frames.{KeptOutside}
 use Rattle.memory.proofs.TestLaws.{last-or}
 use Rattle.memory.proofs.FrameLaws.{kept-set, kept-at, kept-join, kept-sets, u16-kept, u16-back}
+use Rattle.memory.proofs.ListLaws.{count-next, count-place, count-some-le}
 use Rattle.ternary.specs.Ternary.{Ternary, X, codeOf, valueOf}
 use Rattle.ternary.proofs.RuleLaws.{value-of-code, code-below}
 use Rattle.netlist.specs.Limits.{mostRows, mostOriginalRows, mostOriginalRegisters}
@@ -30,7 +31,7 @@ use Rattle.lasso.specs.Generators.{stateValue}
 use Rattle.blockfile.specs.RowCode.{fieldsIn, fieldsFrom, ifKnown}
 use Rattle.blockfile.proofs.RowCodeLaws.{kind-known}
 use Rattle.blockfile.specs.declared.Fields.{Fields}
-use Rattle.blockfile.proofs.CountLaws.{count-next, count-place, sorts-by, count-some-le}
+use Rattle.blockfile.proofs.CountLaws.{sorts-by}
 use Rattle.fold_memory.specs.WorkMap.{valueOffset, nextOffset, stateBytes, stateOffset}
 use Rattle.ternary_step.specs.StateMap.{codeAt, Packed, registersBefore, stateCodes, valueIn, stepValue, Coded, RowToEvaluate, rowIn, noCode, AtRow, Evaluated, NextsListed, Started}
 use Rattle.ternary_step.proofs.CodeLaws.{packed-at, packed-small, packed-more, packed-kept}

@@ -7,6 +7,7 @@ use fold_refusals::FoldRefusal;
 use reference_fold::Folded;
 use reference_fold::Lent;
 use reference_questions::Verdict;
+use reference_rows::rows::length_of;
 use text::both;
 use text::bytes::first;
 use text::bytes::get;
@@ -182,12 +183,6 @@ pub fn try_fold(
 pub fn try_alone(file: &[u8], wish: u32, clocks: usize, tally: &mut [u64]) -> Folded {
     let mut results = rooms::short_filled();
     try_fold(file, wish, clocks, &mut results, tally)
-}
-
-// The bytes of a file of so many rows.
-pub fn length_of(rows: u32) -> usize {
-    let blocks = (rows % 65536 + 62) / 63;
-    512 * blocks as usize
 }
 
 // A fold that is done is run beside its file.

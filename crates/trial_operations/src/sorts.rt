@@ -11,7 +11,7 @@ use text::both;
 use text::bytes::first;
 use text::bytes::least;
 use text::bytes::same;
-use trial_pieces::dice::roll;
+use trial_pieces::dice::lent_of;
 use trial_pieces::pieces::plus;
 use trial_tally::rooms;
 use trial_tally::tally::add;
@@ -58,15 +58,6 @@ fn compare_answers(answer: Sorted, right: Sorted, tally: &mut [u64]) {
         both(verdict, answer.rows == right.rows),
         trial_tally::tally::SORT_ANSWERS,
     );
-}
-
-// How much is lent: at times one byte too few, or some more.
-pub fn lent_of(seed: &mut u64, needed: usize) -> usize {
-    match roll(seed, 24) {
-        0 => std::num::wrapping_sub_usize(needed, 1),
-        1 | 2 | 3 => plus(needed, 16),
-        _ => needed,
-    }
 }
 
 // Sort by the reference, in memories that are filled alike, and of which as much is lent; what is left in them is compared.

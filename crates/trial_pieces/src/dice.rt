@@ -59,3 +59,12 @@ pub fn put_values(bytes: &mut [u8], seed: &mut u64, count: usize) {
         text::bytes::put(bytes, i, value);
     }
 }
+
+// How much is lent: at times one byte too few, or some more.
+pub fn lent_of(seed: &mut u64, needed: usize) -> usize {
+    match roll(seed, 24) {
+        0 => std::num::wrapping_sub_usize(needed, 1),
+        1 | 2 | 3 => std::num::wrapping_add_usize(needed, 16),
+        _ => needed,
+    }
+}

@@ -24,15 +24,15 @@ use trial_tally::tally::hold;
 const MOST_STEPS: usize = 48;
 
 // A run of so many steps takes so many groups; it starts by so many choices, a step has so many inputs and outputs, a group so many others.
-struct Sizes {
-    phases: usize,
-    steps: usize,
-    groups: usize,
-    unknown: usize,
-    inputs: usize,
-    outputs: usize,
-    group_inputs: usize,
-    group_outputs: usize,
+pub struct Sizes {
+    pub phases: usize,
+    pub steps: usize,
+    pub groups: usize,
+    pub unknown: usize,
+    pub inputs: usize,
+    pub outputs: usize,
+    pub group_inputs: usize,
+    pub group_outputs: usize,
 }
 
 pub fn times(x: usize, y: usize) -> usize {
@@ -209,7 +209,7 @@ fn same_shown(fold: &[u8], sizes: Sizes, map: &[u16], shown: &[u8], folded: &[u8
 // ---- runs
 
 // Run by the product with as much work as it asks for; whether it was done.
-fn run(file: &[u8], steps: usize, choices: &[u8], inputs: &[u8], shown: &mut [u8]) -> bool {
+pub fn run(file: &[u8], steps: usize, choices: &[u8], inputs: &[u8], shown: &mut [u8]) -> bool {
     let mut works = rooms::short_zeros();
     let work: &mut [u8] = &mut works;
     let end = least(work_for(rows_of(file)), work.len());
@@ -289,7 +289,7 @@ fn run_fold(
 }
 
 // Whether file and fold show the same.
-fn same_runs(file: &[u8], fold: &[u8], sizes: Sizes, shown: &[u8], folded: &[u8]) -> bool {
+pub fn same_runs(file: &[u8], fold: &[u8], sizes: Sizes, shown: &[u8], folded: &[u8]) -> bool {
     let mut maps = rooms::words();
     let map: &mut [u16] = &mut maps;
     map_labels(file, 6, map);
@@ -322,7 +322,7 @@ pub fn unknown_in(file: &[u8]) -> usize {
     count
 }
 
-fn sizes_of(file: &[u8], fold: &[u8], steps: usize, phases: usize) -> Sizes {
+pub fn sizes_of(file: &[u8], fold: &[u8], steps: usize, phases: usize) -> Sizes {
     let rows = rows_of(file);
     let fold_rows = rows_of(fold);
     Sizes {

@@ -1,6 +1,7 @@
 // Counts of what was tried and what was found.
 ghost use mathlib.Core.Path.{_≡_};
 ghost use lib.ListN.{length};
+use text::out::tell;
 
 // Folds by number: 0 for those done, else the refusal's. The other counts stand after them.
 pub const FILES: usize = 24;
@@ -67,61 +68,83 @@ pub const WORK_SORTS: usize = 186;
 // Imports of long texts by number.
 pub const LONG_IMPORTS: usize = 210;
 
+// Traces by number, from here on as the folds above; the steps compared; inputs in a phase, and X registers, that the fold did not keep.
+pub const TRACES: usize = 236;
+
+pub const TRACED_STEPS: usize = 265;
+
+pub const INPUTS_DROPPED: usize = 266;
+
+pub const CHOICES_DROPPED: usize = 267;
+
+// Traces at the limits of 26, 27 and 28, from here on.
+pub const TRACE_LIMITS: usize = 268;
+
 // Differences, each kind by itself, from here on.
-pub const CHECKS: usize = 236;
+pub const CHECKS: usize = 282;
 
-pub const ANSWERS: usize = 237;
+pub const ANSWERS: usize = 283;
 
-pub const RESULTS: usize = 238;
+pub const RESULTS: usize = 284;
 
-pub const ENTRIES: usize = 239;
+pub const ENTRIES: usize = 285;
 
-pub const FILE_RUNS: usize = 240;
+pub const FILE_RUNS: usize = 286;
 
-pub const FOLD_RUNS: usize = 241;
+pub const FOLD_RUNS: usize = 287;
 
-pub const COUNTS: usize = 242;
+pub const COUNTS: usize = 288;
 
-pub const SHOWS: usize = 243;
+pub const SHOWS: usize = 289;
 
-pub const SORT_ANSWERS: usize = 244;
+pub const SORT_ANSWERS: usize = 290;
 
-pub const SORT_RESULTS: usize = 245;
+pub const SORT_RESULTS: usize = 291;
 
-pub const SORT_WORKS: usize = 246;
+pub const SORT_WORKS: usize = 292;
 
-pub const UNACCEPTED: usize = 247;
+pub const UNACCEPTED: usize = 293;
 
-pub const UNSTABLE: usize = 248;
+pub const UNSTABLE: usize = 294;
 
-pub const SORT_RUNS: usize = 249;
+pub const SORT_RUNS: usize = 295;
 
-pub const IMPORT_ANSWERS: usize = 250;
+pub const IMPORT_ANSWERS: usize = 296;
 
-pub const IMPORT_RESULTS: usize = 251;
+pub const IMPORT_RESULTS: usize = 297;
 
-pub const IMPORT_WORKS: usize = 252;
+pub const IMPORT_WORKS: usize = 298;
 
-pub const IMPORT_UNACCEPTED: usize = 253;
+pub const IMPORT_UNACCEPTED: usize = 299;
 
-pub const IMPORT_UNSTABLE: usize = 254;
+pub const IMPORT_UNSTABLE: usize = 300;
 
-pub const IMPORT_RUNS: usize = 255;
+pub const IMPORT_RUNS: usize = 301;
 
-pub const IMPORT_FOLDS: usize = 256;
+pub const IMPORT_FOLDS: usize = 302;
 
-pub const RUN_ANSWERS: usize = 257;
+pub const RUN_ANSWERS: usize = 303;
 
-pub const RUN_RESULTS: usize = 258;
+pub const RUN_RESULTS: usize = 304;
 
-pub const RUN_WORKS: usize = 259;
+pub const RUN_WORKS: usize = 305;
+
+pub const TRACE_ANSWERS: usize = 306;
+
+pub const TRACE_BYTES: usize = 307;
+
+pub const TRACE_RESULTS: usize = 308;
+
+pub const TRACE_WORKS: usize = 309;
+
+pub const TRACE_RUNS: usize = 310;
 
 // How many counts there are.
-pub const SLOTS: usize = 260;
+pub const SLOTS: usize = 311;
 
 // A tally of nothing.
 pub fn fresh() -> [u64; SLOTS]
-    ensures { λ r. ⌜ 260 ≡ length r ⌝ }
+    ensures { λ r. ⌜ 311 ≡ length r ⌝ }
 {
     [0; SLOTS]
 }
@@ -243,7 +266,7 @@ fn print_sum(tally: &[u64], text: &[u8], start: usize, end: usize) {
 }
 
 fn print_long_imports(tally: &[u64]) {
-    print_sum(tally, b"\nimports of long texts ", LONG_IMPORTS, CHECKS);
+    print_sum(tally, b"\nimports of long texts ", LONG_IMPORTS, TRACES);
     print_count(tally, b"\n  done: ", LONG_IMPORTS);
     io::write_all(1, b"\n");
     print_refusals(tally, LONG_IMPORTS, 22, 26);
@@ -300,6 +323,57 @@ fn print_works(tally: &[u64]) {
     print_count(tally, b"\n  refused 23: ", WORK_SORTS + 23);
 }
 
+// Numbers as they stand in the tally from `at` on.
+fn six(tally: &[u64], at: usize) -> [usize; 6] {
+    let base = at % SLOTS;
+    [
+        count(tally, base) as usize,
+        count(tally, base + 1) as usize,
+        count(tally, base + 2) as usize,
+        count(tally, base + 3) as usize,
+        count(tally, base + 4) as usize,
+        count(tally, base + 5) as usize,
+    ]
+}
+
+fn print_traces(tally: &[u64]) {
+    print_sum(tally, b"\ntraces ", TRACES, TRACED_STEPS);
+    print_count(tally, b"\n  done: ", TRACES);
+    print_sum(tally, b"\n  refused 1 to 10: ", TRACES + 1, TRACES + 11);
+    io::write_all(1, b"\n");
+    print_refusals(tally, TRACES, 11, 17);
+    print_refusals(tally, TRACES, 26, 29);
+    tell(
+        1,
+        b"steps compared #\n  inputs not kept: #\n  choices not kept: #\n",
+        six(tally, TRACED_STEPS),
+    );
+}
+
+// Those done, and those refused just over a limit.
+fn print_trace_limits(tally: &[u64]) {
+    tell(
+        1,
+        b"  done with 1 group: #, with 512: #; refused with none: #, with 513: #; ",
+        six(tally, TRACE_LIMITS),
+    );
+    tell(
+        1,
+        b"done up to phase 0: #, up to N - 1: #; refused up to N: #\n",
+        six(tally, TRACE_LIMITS + 4),
+    );
+    tell(
+        1,
+        b"  refused with a choice more: #, less: #, a value more: #, less: #, one above 1: #\n",
+        six(tally, TRACE_LIMITS + 7),
+    );
+    tell(
+        1,
+        b"  done in as much memory as is asked for: #; refused a byte less: #",
+        six(tally, TRACE_LIMITS + 12),
+    );
+}
+
 fn print_file_differences(tally: &[u64]) {
     print(b"\ndifferences ", differences(tally));
     print_count(tally, b"\n  in Check: ", CHECKS);
@@ -354,7 +428,14 @@ fn print_import_differences(tally: &[u64]) {
         IMPORT_RUNS,
     );
     print_count(tally, b"\n  in folds of the imported file: ", IMPORT_FOLDS);
-    io::write_all(1, b"\n");
+}
+
+fn print_trace_differences(tally: &[u64]) {
+    tell(
+        1,
+        b"\n  in Trace's answer: #\n  in its trace: #\n  in its result: #\n  in its work: #\n  in runs of the file on the trace, beside the fold: #\n",
+        six(tally, TRACE_ANSWERS),
+    );
 }
 
 pub fn print_all(tally: &[u64]) {
@@ -368,9 +449,12 @@ pub fn print_all(tally: &[u64]) {
     print_long_sorts(tally);
     print_damaged(tally);
     print_works(tally);
+    print_traces(tally);
+    print_trace_limits(tally);
     print_file_differences(tally);
     print_fold_differences(tally);
     print_run_differences(tally);
     print_sort_differences(tally);
     print_import_differences(tally);
+    print_trace_differences(tally);
 }

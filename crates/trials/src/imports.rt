@@ -6,7 +6,7 @@ use text::bytes::first;
 use text::bytes::least;
 use text::bytes::same;
 use trial_operations::files::said;
-use trial_operations::sorts::lent_of;
+use trial_pieces::dice::lent_of;
 use trial_pieces::pieces::plus;
 use trial_tally::rooms;
 use trial_tally::tally::add;
@@ -172,7 +172,7 @@ fn try_import(text: &[u8], seed: &mut u64, tally: &mut [u64]) {
     let result: &mut [u8] = &mut results;
     let answer = import_both(text, seed, result, tally);
     if answer.number == 0 {
-        let size = trial_operations::folds::length_of(answer.rows);
+        let size = reference_rows::rows::length_of(answer.rows);
         try_imported(text, first(result, size), seed, tally);
     }
 }

@@ -1,5 +1,5 @@
 // Random netlists and damaged files folded and sorted, and random AIGER texts imported, by the product and by the reference, a
-// folder, a sorter and an importer written separately from the paper's text; files and what is made of them run side by side; files at the limits of a file; and the entries of the trainer's table that have no star.
+// folder, a sorter and an importer written separately from the paper's text; files and what is made of them run side by side; values of folds traced back; files at the limits of a file; and the entries of the trainer's table that have no star.
 
 mod imports;
 mod limits;
@@ -37,6 +37,7 @@ fn try_refused(file: &[u8], tally: &mut [u64]) {
 
 fn try_file(file: &[u8], seed: &mut u64, tally: &mut [u64]) {
     trial_operations::files::try_operations(file, *seed, tally);
+    trial_traces::try_traces(file, *seed, tally);
     try_wishes(file, seed, tally);
     if chance(seed, 16) {
         try_refused(file, tally);

@@ -1,0 +1,4 @@
+-- Laws of Trace's questions and of its outcome.
+pub mod PlanLaws
+pub mod MadeLaws
+pub mod LentLaws

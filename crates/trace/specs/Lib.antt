@@ -1,0 +1,2 @@
+-- What Trace plans and makes of a fold.
+pub mod TracePlans

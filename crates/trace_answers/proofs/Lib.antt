@@ -1,0 +1,2 @@
+-- Laws of Trace's outcome.
+pub mod TracedLaws

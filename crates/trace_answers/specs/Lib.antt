@@ -1,0 +1,3 @@
+-- Trace's answers and its outcome.
+pub mod TraceAnswers
+pub mod Traced

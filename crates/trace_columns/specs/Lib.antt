@@ -1,0 +1,3 @@
+-- The columns of the folded netlist's values, and the values by them.
+pub mod Columns
+pub mod TraceValues

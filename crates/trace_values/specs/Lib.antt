@@ -1,0 +1,2 @@
+-- What Trace's values are made of.
+pub mod Pairs

@@ -1,0 +1,1 @@
+// Definitions, laws and theorems alone; no code.
