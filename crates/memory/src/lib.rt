@@ -1,4 +1,6 @@
 // Little-endian numbers read from a run of bytes and written to it, tables of such numbers, and bytes cleared.
+#![tactic(auto)]
+
 ghost use Rattle.std.specs.Prelude.{◌≡◌, ◌++◌, ◌+◌, ◌-◌, ◌*◌, ◌^◌, ◌<◌, ◌≤◌, length, take, replicate};
 ghost use Rattle.std.proofs.lemmas.List.Edits.{sets};
 ghost use Rattle.memory.specs.Fields.{byte_at, u16_at, u32_at, u16_bytes, u32_bytes};

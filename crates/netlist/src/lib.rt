@@ -1,4 +1,6 @@
 // The limits of specs/Limits.antt, as code has them.
+#![tactic(auto)]
+
 ghost use Rattle.std.specs.Prelude.{◌≡◌};
 ghost use Rattle.netlist.specs.Limits.{row_work_bytes};
 

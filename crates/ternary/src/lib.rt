@@ -1,4 +1,6 @@
 // The three-valued gates over the codes 0, 1 and 2 (X): AND by arithmetic, fixed tables for XOR and MUX.
+#![tactic(auto)]
+
 ghost use Rattle.std.specs.Prelude.{◌≡◌, ◌<◌};
 ghost use Rattle.ternary.specs.Ternary.{and3, xor3, mux3, code_of, value_of};
 

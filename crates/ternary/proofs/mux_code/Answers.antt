@@ -2,18 +2,10 @@
 -- Assumes nothing.
 use mathlib.Core.Path.{refl}
 use native.Mathlib.Omega.{arith}
-use borrow.Author.Rules.{rules}
 use Rattle.ternary.specs.Ternary.{mux3}
 use Rattle.ternary.proofs.Tables.{agrees-triple}
-use Rattle.ternary.proofs.mux_code.Statement.{statement}
-use Rattle.ternary.proofs.mux_code.Tie as tie
+use Rattle.ternary.proofs.mux_code.Goals as goal
 
-returns : tie.Need-returns
+pub returns : goal.returns
 unfolding mux3
 returns c = agrees-triple mux3 _ refl c.args.s c.args.b c.args.c (omega arith) (omega arith) (omega arith)
-
-pub mux-code-spec : {M : Type 1} → statement M
-mux-code-spec =
-    tie.close
-    (tie.spec (λ c. search rules) (λ c. search rules) (λ c. search rules) (λ c. search rules) (λ c. search rules) (λ c. search rules)
-    returns)

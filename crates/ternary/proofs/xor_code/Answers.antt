@@ -2,17 +2,10 @@
 -- Assumes nothing.
 use mathlib.Core.Path.{refl}
 use native.Mathlib.Omega.{arith}
-use borrow.Author.Rules.{rules}
 use Rattle.ternary.specs.Ternary.{xor3}
 use Rattle.ternary.proofs.Tables.{agrees-pair}
-use Rattle.ternary.proofs.xor_code.Statement.{statement}
-use Rattle.ternary.proofs.xor_code.Tie as tie
+use Rattle.ternary.proofs.xor_code.Goals as goal
 
-returns : tie.Need-returns
+pub returns : goal.returns
 unfolding xor3
 returns c = agrees-pair xor3 _ refl c.args.a c.args.b (omega arith) (omega arith)
-
-pub xor-code-spec : {M : Type 1} → statement M
-xor-code-spec =
-    tie.close
-    (tie.spec (λ c. search rules) (λ c. search rules) (λ c. search rules) (λ c. search rules) returns)
