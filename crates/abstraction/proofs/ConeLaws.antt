@@ -257,6 +257,7 @@ module _ (rows : List Row) (c : List Bool) (closed : ClosedUnderFanin rows c) wh
   cone-least roots = fixpoint-within _ _ (λ j h. let k = root_in rows j h in roots j k.0 k.1)
 
 all-marked : (m : List Bool) (js : List ℕ) → AllMarked m js → (i : ℕ) → Among i js → is_marked m i ≡ true
+all-marked m [] a i x'' = elim x'' [ ]
 all-marked m (j ∷ js) a i here = a.0
 all-marked m (j ∷ js) a i (there n) = all-marked m js a.1 i n
 

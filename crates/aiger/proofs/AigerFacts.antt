@@ -5,7 +5,7 @@ use mathlib.Core.Path.{◌≡◌}
 use lib.ListN.{length}
 use Rattle.netlist.specs.Rows.{constant, input, row_at}
 use Rattle.aiger.specs.AigerText.{Aiger, number_at, node_count, node_literal, node_of}
-use Rattle.aiger.specs.AigerRows.{latch_line_of, output_line_of, gate_line_of, latch_row, gate_row, output-row, aiger_rows}
+use Rattle.aiger.specs.AigerRows.{latch_line_of, output_line_of, gate_line_of, latch_row, gate_row, output_row, aiger_rows}
 
 -- Of any header and lines.
 pub record RowPlaces (a : Aiger) : Type 0 where
@@ -14,7 +14,7 @@ pub record RowPlaces (a : Aiger) : Type 0 where
   pub input-at : (j : ℕ) → j < a.header.inputs → row_at (aiger_rows a) (1 + j) ≡ input j 0
   pub latch-at : (j : ℕ) → j < a.header.latches → row_at (aiger_rows a) (1 + a.header.inputs + j) ≡ latch_row a j
   pub gate-at : (j : ℕ) → j < a.header.gates → row_at (aiger_rows a) (1 + a.header.inputs + a.header.latches + j) ≡ gate_row a j
-  pub output-at : (j : ℕ) → j < a.header.outputs → row_at (aiger_rows a) (node_count a.header + j) ≡ output-row a j
+  pub output-at : (j : ℕ) → j < a.header.outputs → row_at (aiger_rows a) (node_count a.header + j) ≡ output_row a j
   pub input-literal : (j : ℕ) → j < a.header.inputs → node_literal a (1 + j) ≡ number_at a j 0
   pub latch-literal : (j : ℕ) → j < a.header.latches → node_literal a (1 + a.header.inputs + j) ≡ number_at a (latch_line_of a j) 0
   pub gate-literal : (j : ℕ) → j < a.header.gates → node_literal a (1 + a.header.inputs + a.header.latches + j) ≡ number_at a (gate_line_of a j) 0

@@ -15,7 +15,7 @@ use Rattle.memory.proofs.TestLaws.{and-true, not-both}
 use Rattle.memory.proofs.ListLaws.{all_below-at, tabulate-length, tabulate-at, first-is}
 use Rattle.netlist.specs.Rows.{Row, constant, input, row_at}
 use Rattle.aiger.specs.AigerText.{Header, Aiger, line_count, line_at, number_at, Section, input_line, latch_line, output_line, gate_line, section_of, definition_right, line_right, uses_in, node_count, node_literal, node_of, is_distinct, is_defined, lines_right}
-use Rattle.aiger.specs.AigerRows.{latch_line_of, output_line_of, gate_line_of, latch_row, gate_row, output-row, aiger_rows}
+use Rattle.aiger.specs.AigerRows.{latch_line_of, output_line_of, gate_line_of, latch_row, gate_row, output_row, aiger_rows}
 use Rattle.aiger.proofs.AigerFacts.{RowPlaces, NodeFacts}
 
 -- ---- a list, and a table after it
@@ -90,7 +90,7 @@ module _ (a : Aiger) where
 
   rows_before : (x : ℕ) → x < node_count a.header → row_at (aiger_rows a) x ≡ row_at nodes x
   unfolding aiger_rows
-  rows_before x h = table_before nodes (node_count a.header) nodes-length O (output-row a) x constant h
+  rows_before x h = table_before nodes (node_count a.header) nodes-length O (output_row a) x constant h
 
   input-row : (j : ℕ) → j < I → row_at (aiger_rows a) (1 + j) ≡ input j 0
   input-row j h =
@@ -103,13 +103,13 @@ module _ (a : Aiger) where
   gate-row : (j : ℕ) → j < G → row_at (aiger_rows a) (1 + I + L + j) ≡ gate_row a j
   gate-row j h = rows_before (1 + I + L + j) (omega arith) ∙ table_at states (1 + I + L) states-length G (gate_row a) j constant h
 
-  output-row : (j : ℕ) → j < O → row_at (aiger_rows a) (node_count a.header + j) ≡ output-row a j
+  output-row : (j : ℕ) → j < O → row_at (aiger_rows a) (node_count a.header + j) ≡ output_row a j
   unfolding aiger_rows
-  output-row j h = table_at nodes (node_count a.header) nodes-length O (output-row a) j constant h
+  output-row j h = table_at nodes (node_count a.header) nodes-length O (output_row a) j constant h
 
   rows-count : length (aiger_rows a) ≡ node_count a.header + O
   unfolding aiger_rows
-  rows-count = table-length nodes (node_count a.header) nodes-length O (output-row a)
+  rows-count = table-length nodes (node_count a.header) nodes-length O (output_row a)
 
   -- ---- nodes
 

@@ -10,7 +10,7 @@ use lib.Dec.{ltb, leb}
 use borrow.Author.Tests.{ltb-true, ltb-false, leb-true, eqb-true, eqb-false, lt-ltb, le-ltb, le-leb, ne_eqb}
 use Rattle.memory.proofs.TestLaws.{cond-case, and-true}
 use Rattle.aiger.specs.AigerText.{largest_number, digits}
-use Rattle.aiger.specs.AigerReading.{is-digit, more_digits, number}
+use Rattle.aiger.specs.AigerReading.{is_digit, more_digits, number}
 use Rattle.aiger.proofs.ReadingLaws.{Gives, none_is, given-once, cond-some, cond-holds}
 
 -- A number has 32 bits.
@@ -19,10 +19,10 @@ few-fits n u = omega arith
 
 -- ---- digits
 
-digit-of : (b : ℕ) → 48 ≤ b → b ≤ 57 → is-digit b ≡ true
+digit-of : (b : ℕ) → 48 ≤ b → b ≤ 57 → is_digit b ≡ true
 digit-of b l u = rw (le-leb 48 b l, le-leb b 57 u)
 
-digit-is : (b : ℕ) → is-digit b ≡ true → (48 ≤ b) × (b ≤ 57)
+digit-is : (b : ℕ) → is_digit b ≡ true → (48 ≤ b) × (b ≤ 57)
 digit-is b h = let p = and-true (leb 48 b) (leb b 57) h in (leb-true 48 b p.0, leb-true b 57 p.1)
 
 -- A number of at most k + 1 digits has no more of them if more are allowed.
@@ -91,7 +91,7 @@ number_is (b ∷ t) n r h =
 
 -- ---- digits are read
 
-more-stops : (n b : ℕ) (t : List ℕ) → is-digit b ≡ false → Gives (more_digits n (b ∷ t)) n (b ∷ t)
+more-stops : (n b : ℕ) (t : List ℕ) → is_digit b ≡ false → Gives (more_digits n (b ∷ t)) n (b ∷ t)
 unfolding more_digits
 more-stops n b t h = rw h
 
@@ -119,7 +119,7 @@ positive-read (suc k) n t p u h =
     ∙ more-goes-on (n / 10) (n % 10) n t (omega arith) (omega arith) u)
 
 -- b is no digit.
-pub number-read : (n b : ℕ) (t : List ℕ) → n ≤ largest_number → is-digit b ≡ false → Gives (number (digits 10 n ++ (b ∷ t))) n (b ∷ t)
+pub number-read : (n b : ℕ) (t : List ℕ) → n ≤ largest_number → is_digit b ≡ false → Gives (number (digits 10 n ++ (b ∷ t))) n (b ∷ t)
 unfolding number
 number-read zero b t u h = refl
 number-read (suc n) b t u h = positive-read 10 (suc n) (b ∷ t) (omega arith) u (omega arith) ∙ more-stops (suc n) b t h

@@ -15,7 +15,7 @@ use Rattle.netlist.specs.Rows.{Row, constant, input, row_at, kind_of, label_of, 
 use Rattle.netlist.specs.WellFormed.{NextBelow, ResetIn, NamesNode, OnLiterals, UnorderedRows}
 use Rattle.netlist.proofs.RowLaws.{named-alike}
 use Rattle.aiger.specs.AigerText.{Aiger, line_at, number_at, node_count, node_of, is_distinct, is_defined, lines_right, aiger_right}
-use Rattle.aiger.specs.AigerRows.{latch_line_of, output_line_of, gate_line_of, row_literal, reset_code, latch_row, gate_row, output-row, aiger_rows}
+use Rattle.aiger.specs.AigerRows.{latch_line_of, output_line_of, gate_line_of, row_literal, reset_code, latch_row, gate_row, output_row, aiger_rows}
 use Rattle.aiger.proofs.AigerFacts.{RowPlaces}
 use Rattle.aiger.proofs.NodeLaws.{row-places, each-place, node-facts, some-output}
 
@@ -48,7 +48,7 @@ module _ (a : Aiger) where
   R = row-places a
 
   -- What holds of each kind of row at its place holds of every row.
-  module _ (P : ℕ → Row → Type 0) (constant-has : P 0 constant) (input-has : (j : ℕ) → j < a.header.inputs → P (1 + j) (input j 0)) (latch-has : (j : ℕ) → j < a.header.latches → P (1 + a.header.inputs + j) (latch_row a j)) (gate-has : (j : ℕ) → j < a.header.gates → P (1 + a.header.inputs + a.header.latches + j) (gate_row a j)) (output-has : (j : ℕ) → j < a.header.outputs → P (n + j) (output-row a j)) where
+  module _ (P : ℕ → Row → Type 0) (constant-has : P 0 constant) (input-has : (j : ℕ) → j < a.header.inputs → P (1 + j) (input j 0)) (latch-has : (j : ℕ) → j < a.header.latches → P (1 + a.header.inputs + j) (latch_row a j)) (gate-has : (j : ℕ) → j < a.header.gates → P (1 + a.header.inputs + a.header.latches + j) (gate_row a j)) (output-has : (j : ℕ) → j < a.header.outputs → P (n + j) (output_row a j)) where
     pub each_row : (x : ℕ) → x < length rows → P x (row_at rows x)
     each_row x h =
         each-place a (λ y. P y (row_at rows y)) (rw R.constant-at constant-has) (λ j l. rw (R.input-at j l) (input-has j l)) (λ j l. rw (R.latch-at j l) (latch-has j l))

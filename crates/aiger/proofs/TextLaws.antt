@@ -14,7 +14,7 @@ use Rattle.memory.specs.Lists.{all_of, join_below, tabulate}
 use Rattle.memory.proofs.TestLaws.{and-true, or_case}
 use Rattle.memory.proofs.ListLaws.{all_below-at, join-cong, tabulate-length, tabulate-at}
 use Rattle.aiger.specs.AigerText.{Header, Aiger, line_count, line_at, Section, input_line, latch_line, output_line, gate_line, section_of, definition_right, line_right, lines_right, is_distinct, is_defined, aiger_right, largest_number, line_bytes, opening, header_numbers, writing, IsTextOf}
-use Rattle.aiger.specs.AigerReading.{line, lines, starts_with, header-of, header, read_lines, read_aiger, ReadsWriting}
+use Rattle.aiger.specs.AigerReading.{line, lines, starts_with, header_of, header, read_lines, read_aiger, ReadsWriting}
 use Rattle.aiger.proofs.ReadingLaws.{Gives, none_is, given-once, cond-some, then-of, then_is}
 use Rattle.aiger.proofs.LineLaws.{few_of, LineSize, LineText, line-is, line-read}
 
@@ -81,7 +81,7 @@ lines-is (suc n) t ls r h =
 
 header_read : (h : Header) (t : List ℕ) → few_of (header_numbers h) ≡ true → Gives (header (opening ++ line_bytes (header_numbers h) ++ t)) h t
 unfolding header
-header_read h t u = then-of (line 5) header-of (line_bytes (header_numbers h) ++ t) (header_numbers h) t (line-read 5 (header_numbers h) t (omega arith) u)
+header_read h t u = then-of (line 5) header_of (line_bytes (header_numbers h) ++ t) (header_numbers h) t (line-read 5 (header_numbers h) t (omega arith) u)
 
 starts-with : (bs t : List ℕ) → starts_with bs t ≡ true → t ≡ bs ++ drop (length bs) t
 starts-with [] t h = refl
@@ -93,7 +93,7 @@ record HeaderText (t : List ℕ) (h : Header) (r : List ℕ) : Type 0 where
   few : few_of (header_numbers h) ≡ true
 
 -- Five numbers are a header's.
-header-of : (ns s : List ℕ) (h : Header) (r : List ℕ) → Gives (header-of ns s) h r → (ns ≡ header_numbers h) × (s ≡ r)
+header-of : (ns s : List ℕ) (h : Header) (r : List ℕ) → Gives (header_of ns s) h r → (ns ≡ header_numbers h) × (s ≡ r)
 header-of ns s h r e =
     let c = cond-some _ _ (h, r) e in
     let q = given-once _ h s r c.1 in
@@ -103,7 +103,7 @@ header_is : (t : List ℕ) (h : Header) (r : List ℕ) → Gives (header t) h r 
 unfolding header
 header_is t h r e =
     let c = cond-some _ _ (h, r) e in
-    then_is (line _) header-of _ h r c.1 (λ ns s g k.
+    then_is (line _) header_of _ h r c.1 (λ ns s g k.
     let L = line-is _ _ ns s g in
     let q = header-of ns s h r k in
     record {

@@ -22,18 +22,18 @@ abbrev pub byte : Reading ℕ
 byte [] = none
 byte (b ∷ t) = some (b, t)
 
-abbrev pub is-digit : ℕ → Bool
-is-digit b = leb 48 b && leb b 57
+abbrev pub is_digit : ℕ → Bool
+is_digit b = leb 48 b && leb b 57
 
 -- The digits of a number go on, v the number so far.
 unfoldable pub more_digits : ℕ → Reading ℕ
 more_digits v [] = some (v, [])
-more_digits v (b ∷ t) = cond (is-digit b) (let w = 10 * v + (b - 48) in cond (leb w largest_number) (more_digits w t) none) (some (v, b ∷ t))
+more_digits v (b ∷ t) = cond (is_digit b) (let w = 10 * v + (b - 48) in cond (leb w largest_number) (more_digits w t) none) (some (v, b ∷ t))
 
 -- A number that begins with the digit 0 is 0: a digit after it is no space and no line feed.
 unfoldable pub number : Reading ℕ
 number [] = none
-number (b ∷ t) = cond (eqb b 48) (some (0, t)) (cond (is-digit b) (more_digits (b - 48) t) none)
+number (b ∷ t) = cond (eqb b 48) (some (0, t)) (cond (is_digit b) (more_digits (b - 48) t) none)
 
 -- A line of 1 to k numbers; the next n lines, of 1 to 3 numbers each.
 unfoldable pub line : ℕ → Reading (List ℕ)
@@ -50,11 +50,11 @@ starts_with (b ∷ bs) [] = false
 starts_with (b ∷ bs) (c ∷ t) = eqb b c && starts_with bs t
 
 -- Five numbers, and no other count.
-abbrev pub header-of : List ℕ → Reading Header
-header-of ns t = cond (eqb (length ns) 5) (some (record { maximum = get_or ns 0 0; inputs = get_or ns 1 0; latches = get_or ns 2 0; outputs = get_or ns 3 0; gates = get_or ns 4 0 }, t)) none
+abbrev pub header_of : List ℕ → Reading Header
+header_of ns t = cond (eqb (length ns) 5) (some (record { maximum = get_or ns 0 0; inputs = get_or ns 1 0; latches = get_or ns 2 0; outputs = get_or ns 3 0; gates = get_or ns 4 0 }, t)) none
 
 unfoldable pub header : Reading Header
-header t = cond (starts_with opening t) ((line 5 >>= header-of) (drop 4 t)) none
+header t = cond (starts_with opening t) ((line 5 >>= header_of) (drop 4 t)) none
 
 -- The header and the lines that it counts, whatever they say.
 unfoldable pub read_lines : Reading Aiger

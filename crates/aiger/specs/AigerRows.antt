@@ -33,8 +33,8 @@ latch_row a j = let k = latch_line_of a j in register (reset_code (line_at a k))
 abbrev pub gate_row : Aiger → ℕ → Row
 gate_row a j = let k = gate_line_of a j in and_gate (row_literal a (number_at a k 1)) (row_literal a (number_at a k 2))
 
-abbrev pub output-row : Aiger → ℕ → Row
-output-row a j = output (row_literal a (number_at a (output_line_of a j) 0)) j 0
+abbrev pub output_row : Aiger → ℕ → Row
+output_row a j = output (row_literal a (number_at a (output_line_of a j) 0)) j 0
 
 unfoldable pub aiger_rows : Aiger → List Row
 aiger_rows a =
@@ -42,7 +42,7 @@ aiger_rows a =
     ∷ tabulate a.header.inputs (λ j. input j 0)
     ++ tabulate a.header.latches (latch_row a)
     ++ tabulate a.header.gates (gate_row a)
-    ++ tabulate a.header.outputs (output-row a)
+    ++ tabulate a.header.outputs (output_row a)
 
 -- The rows of a text; none for other text.
 unfoldable pub text_rows : List ℕ → List Row

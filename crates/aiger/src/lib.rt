@@ -1,1 +1,2 @@
 // ASCII AIGER: definitions and laws only.
+#![tactic(auto)]

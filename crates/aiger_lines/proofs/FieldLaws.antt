@@ -12,7 +12,7 @@ use Rattle.aiger.specs.AigerReading.{Reading, ◌>>=◌, done, nothing, byte, nu
 use Rattle.aiger_lines.specs.declared.Field.{Field}
 use Rattle.aiger_lines.specs.declared.Field.TheVariants as fields
 use Rattle.aiger_lines.specs.declared.Line.{Line}
-use Rattle.aiger_lines.specs.Lines.{field, field_read, FieldInside, line-read, NoLine, Padded}
+use Rattle.aiger_lines.specs.Lines.{field, field_read, FieldInside, line_read, NoLine, Padded}
 use Rattle.aiger_lines.proofs.ReadingLaws.{after_none, after-some, after_same, after-after, after-done, byte_of}
 
 -- ---- a line, its numbers handed to f
@@ -65,7 +65,7 @@ last-inside text r v e h s = rw s at h
 
 -- ---- a line of one to three numbers
 
-pub no_line : (text : List ℕ) (x : Line) → NoLine x → (o : Option (List ℕ × List ℕ)) → none ≡ o → line-read text x ≡ o
+pub no_line : (text : List ℕ) (x : Line) → NoLine x → (o : Option (List ℕ × List ℕ)) → none ≡ o → line_read text x ≡ o
 no_line text x n o e = rw n.right e
 
 pub no-padded : (text : List ℕ) (x : Line) → NoLine x → Padded text x

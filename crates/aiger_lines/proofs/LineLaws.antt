@@ -15,7 +15,7 @@ use Rattle.aiger.specs.AigerReading.{line, lines, header, read_lines, read_aiger
 use Rattle.aiger_lines.specs.declared.Line.{Line}
 use Rattle.aiger_lines.specs.declared.Header as h
 use Rattle.aiger_lines.proofs.ReadingLaws.{after-some, both-there}
-use Rattle.aiger_lines.specs.Lines.{header_in, numbers_in, line-read, Padded, FewHeader, aiger_in, lines_stand, text_after, LineThere, LineHere, Counted}
+use Rattle.aiger_lines.specs.Lines.{header_in, numbers_in, line_read, Padded, FewHeader, aiger_in, lines_stand, text_after, LineThere, LineHere, Counted}
 
 -- ---- lines one after another
 
@@ -168,14 +168,14 @@ counted-lines text x from e inside few stand =
     }
 
 -- A line that was read, from its reading.
-read_right : (text : List ℕ) (x : Line) (l r : List ℕ) → line-read text x ≡ some (l, r) → (numbers_in x ≡ l) × (drop x.next text ≡ r)
+read_right : (text : List ℕ) (x : Line) (l r : List ℕ) → line_read text x ≡ some (l, r) → (numbers_in x ≡ l) × (drop x.next text ≡ r)
 read_right text x l r = of x.right
   where
     of : (b : Bool) → cond {A = Option (List ℕ × List ℕ)} b (some (numbers_in x, drop x.next text)) none ≡ some (l, r) → (numbers_in x ≡ l) × (drop x.next text ≡ r)
     of true h = let p = some-injective _ _ h in (ap (λ q. q.0) p, ap (λ q. q.1) p)
     of false h = absurd (none-ne-some (l, r) h)
 
-pub next-line : (text : List ℕ) (k at : ℕ) (x : Line) → LineThere text k at → line-read text x ≡ line 3 (drop at text) → Padded text x → LineHere text k x
+pub next-line : (text : List ℕ) (k at : ℕ) (x : Line) → LineThere text k at → line_read text x ≡ line 3 (drop at text) → Padded text x → LineHere text k x
 next-line text k at x there e pad =
     let s = standing text there.stand in
     let g = s.lined in

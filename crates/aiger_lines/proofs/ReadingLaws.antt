@@ -13,10 +13,10 @@ use lib.ListN.{length, drop, get_or, drop_of_length-le}
 use lib.Seq.{drop-cons}
 use Rattle.memory.proofs.TestLaws.{and-true}
 use Rattle.aiger.specs.AigerText.{largest_number}
-use Rattle.aiger.specs.AigerReading.{Reading, ◌>>=◌, done, nothing, byte, is-digit, more_digits, number, starts_with}
+use Rattle.aiger.specs.AigerReading.{Reading, ◌>>=◌, done, nothing, byte, is_digit, more_digits, number, starts_with}
 use Rattle.aiger_lines.specs.declared.Number.{Number}
 use Rattle.aiger_lines.specs.declared.Number.TheVariants as numbers
-use Rattle.aiger_lines.specs.Lines.{number-read, field}
+use Rattle.aiger_lines.specs.Lines.{number_read, field}
 
 -- ---- a reading after another
 
@@ -65,10 +65,10 @@ after-done {A} m t = of (m t)
 
 -- ---- bytes
 
-pub digit-least : (b : ℕ) → is-digit b ≡ true → 48 ≤ b
+pub digit-least : (b : ℕ) → is_digit b ≡ true → 48 ≤ b
 digit-least b h = leb-true 48 b (and-true (leb 48 b) (leb b 57) h).0
 
-pub is-digit : (byte : ℕ) (b : Bool) → b ≡ is-digit byte → not b ≡ false → is-digit byte ≡ true
+pub is-digit : (byte : ℕ) (b : Bool) → b ≡ is_digit byte → not b ≡ false → is_digit byte ≡ true
 is-digit byte b e n = sym e ∙ not-false b n
 
 -- ---- digits: the number so far is `value`, and they go on at i
@@ -78,15 +78,15 @@ module _ (text : List ℕ) (first at value i : ℕ) (so_far : more_digits first 
   unfolding more_digits
   digits-end h = sym (so_far ∙ rw (drop_of_length-le text h) refl)
 
-  pub digits-stop : i < length text → (b : Bool) → b ≡ is-digit (get_or text i 0) → not b ≡ true → some (value, drop i text) ≡ more_digits first (drop at text)
+  pub digits-stop : i < length text → (b : Bool) → b ≡ is_digit (get_or text i 0) → not b ≡ true → some (value, drop i text) ≡ more_digits first (drop at text)
   unfolding more_digits
   digits-stop h b e n = sym (so_far ∙ rw (drop-cons text i 0 h, sym e ∙ not-true b n) refl)
 
-  pub digits-large : i < length text → (b : Bool) → b ≡ is-digit (get_or text i 0) → not b ≡ false → (longer : ℕ) → longer ≡ 10 * value + (get_or text i 0 - 48) → largest_number < longer → none ≡ more_digits first (drop at text)
+  pub digits-large : i < length text → (b : Bool) → b ≡ is_digit (get_or text i 0) → not b ≡ false → (longer : ℕ) → longer ≡ 10 * value + (get_or text i 0 - 48) → largest_number < longer → none ≡ more_digits first (drop at text)
   unfolding more_digits
   digits-large h b e n longer w l = sym (so_far ∙ rw (drop-cons text i 0 h, sym e ∙ not-false b n, lt-leb (10 * value + (get_or text i 0 - 48)) largest_number (omega arith)) refl)
 
-  pub digits_more : i < length text → (b : Bool) → b ≡ is-digit (get_or text i 0) → not b ≡ false → (longer : ℕ) → longer ≡ 10 * value + (get_or text i 0 - 48) → longer ≤ largest_number → more_digits first (drop at text) ≡ more_digits longer (drop (i + 1) text)
+  pub digits_more : i < length text → (b : Bool) → b ≡ is_digit (get_or text i 0) → not b ≡ false → (longer : ℕ) → longer ≡ 10 * value + (get_or text i 0 - 48) → longer ≤ largest_number → more_digits first (drop at text) ≡ more_digits longer (drop (i + 1) text)
   unfolding more_digits
   digits_more h b e n longer w l = so_far ∙ rw (drop-cons text i 0 h, sym e ∙ not-false b n, le-leb (10 * value + (get_or text i 0 - 48)) largest_number (omega arith), add-one, w) refl
 
@@ -112,7 +112,7 @@ module _ (text : List ℕ) (at : ℕ) where
   unfolding number
   number_short e = rw (drop_of_length-le text {i = at} (omega arith)) refl
 
-  pub byte-is-digit : (b : Bool) → b ≡ is-digit (get_or text at 0) → not b ≡ false → 48 ≤ get_or text at 0
+  pub byte-is-digit : (b : Bool) → b ≡ is_digit (get_or text at 0) → not b ≡ false → 48 ≤ get_or text at 0
   byte-is-digit b e t = digit-least (get_or text at 0) (is-digit (get_or text at 0) b e t)
 
   module _ (inside : at ≤ length text) (more : at ≡ length text → ⊥) where
@@ -123,7 +123,7 @@ module _ (text : List ℕ) (at : ℕ) where
     unfolding number
     number-zero e = rw (begins, e)
 
-    module _ (n : get_or text at 0 ≡ 48 → ⊥) (b : Bool) (e : b ≡ is-digit (get_or text at 0)) where
+    module _ (n : get_or text at 0 ≡ 48 → ⊥) (b : Bool) (e : b ≡ is_digit (get_or text at 0)) where
       pub number-other : not b ≡ true → none ≡ number (drop at text)
       unfolding number
       number-other t = rw (begins, ne_eqb (get_or text at 0) 48 n, sym e ∙ not-true b t)
@@ -138,7 +138,7 @@ module _ (text : List ℕ) (at : ℕ) where
 abbrev pub byte_of : ℕ → Reading (ℕ × Bool)
 byte_of n = byte >>= λ b. cond (eqb b 10) (done (n, true)) (cond (eqb b 32) (done (n, false)) nothing)
 
-module _ (text : List ℕ) (at : ℕ) (r : Number) (read : number-read text r ≡ number (drop at text)) where
+module _ (text : List ℕ) (at : ℕ) (r : Number) (read : number_read text r ≡ number (drop at text)) where
   pub field-none : r ≡ numbers.Other → none ≡ field (drop at text)
   field-none s = sym (after_none number byte_of (drop at text) (sym (rw s at read)))
 

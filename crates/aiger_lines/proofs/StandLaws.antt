@@ -18,7 +18,7 @@ use Rattle.aiger.specs.AigerReading.{line, lines, header, read_lines}
 use Rattle.aiger_lines.specs.declared.Line.{Line}
 use Rattle.aiger_lines.specs.declared.Header as h
 use Rattle.aiger_lines.specs.declared.Section as s
-use Rattle.aiger_lines.specs.Lines.{header_in, section_in, numbers_in, line-read, Padded, lines_stand}
+use Rattle.aiger_lines.specs.Lines.{header_in, section_in, numbers_in, line_read, Padded, lines_stand}
 use Rattle.aiger_lines.proofs.LineLaws.{lines_more, lines_long, line_of, stands, none-stands, lined, read_all, right_at}
 
 -- The first k lines after the header are there, each right by itself, and the next begins at `at`.
@@ -34,13 +34,13 @@ read-start text x from h = record { inside = h; numbers = []; read = refl; right
 
 -- ---- one more line
 
-read_is : (text : List ℕ) (l : Line) (b : Bool) → l.right ≡ b → line-read text l ≡ cond b (some (numbers_in l, drop l.next text)) none
+read_is : (text : List ℕ) (l : Line) (b : Bool) → l.right ≡ b → line_read text l ≡ cond b (some (numbers_in l, drop l.next text)) none
 read_is text l b e = rw e
 
 pub read_more :
     (text : List ℕ) (x : h.Header) (from k at : ℕ) (l : Line) (section : s.Section) (b : Bool)
     → ReadTo text x from k at
-    → line-read text l ≡ line 3 (drop at text)
+    → line_read text l ≡ line 3 (drop at text)
     → Padded text l
     → not l.right ≡ false
     → section_in section ≡ section_of (header_in x) k
@@ -92,9 +92,9 @@ module _ (text : List ℕ) (x : h.Header) (from : ℕ) (head : header text ≡ s
   no-outputs z = unless (λ a r e ls. rw (e, z))
 
   module _ (n : ℕ) (count : n ≡ line_count (header_in x)) (k at : ℕ) (to : ReadTo text x from k at) where
-    module _ (among : k < n) (l : Line) (read : line-read text l ≡ line 3 (drop at text)) where
+    module _ (among : k < n) (l : Line) (read : line_read text l ≡ line 3 (drop at text)) where
       -- Line k of what is read.
-      line-here : (a : Aiger) (r : List ℕ) → lines (line_count (header_in x)) (drop from text) ≡ some (a.lines, r) → (q : List ℕ) × (line-read text l ≡ some (get_or a.lines k [], q))
+      line-here : (a : Aiger) (r : List ℕ) → lines (line_count (header_in x)) (drop from text) ≡ some (a.lines, r) → (q : List ℕ) × (line_read text l ≡ some (get_or a.lines k [], q))
       line-here a r ls =
           let m = line_of (line_count (header_in x)) (drop from text) a.lines r ls k (omega arith) (to.numbers, drop at text) to.read in
           (m.0, read ∙ m.1)
@@ -105,7 +105,7 @@ module _ (text : List ℕ) (x : h.Header) (from : ℕ) (head : header text ≡ s
       pub not_right : (section : s.Section) (b : Bool) → not l.right ≡ false → section_in section ≡ section_of (header_in x) k → b ≡ line_right (header_in x) (section_in section) (numbers_in l) → not b ≡ true → false ≡ lines_stand text
       not_right section b there s q t = unless (λ a r e ls. wrong a e (line-here a r ls))
         where
-          wrong : (a : Aiger) → a.header ≡ header_in x → (q : List ℕ) × (line-read text l ≡ some (get_or a.lines k [], q)) → lines_right a ≡ false
+          wrong : (a : Aiger) → a.header ≡ header_in x → (q : List ℕ) × (line_read text l ≡ some (get_or a.lines k [], q)) → lines_right a ≡ false
           wrong a e m =
               let ns : numbers_in l ≡ get_or a.lines k [] = ap (λ z. z.0) (some-injective _ _ (sym (read_is text l true (not-false l.right there)) ∙ m.1)) in
               line-wrong a k (rw (e, ← count) among) (rw (e, ← ns, ← s, ← q) (not-true b t))

@@ -1,5 +1,5 @@
 -- The readers' answers as readings of the text, what its counted lines say, right or not, and where each line begins.
--- Interface: header_in, section_in, numbers_in, line-read, headed_read, FewHeader, aiger_in, lines_stand, LineStart, LineThere, LineHere, Counted.
+-- Interface: header_in, section_in, numbers_in, line_read, headed_read, FewHeader, aiger_in, lines_stand, LineStart, LineThere, LineHere, Counted.
 -- Assumes nothing.
 use Rattle.std.specs.Prelude.{ℕ, ◌+◌, ◌<◌, ◌≤◌, ◌≡◌, Bool, true, false, cond, List, [], ◌∷◌, length, get_or, take, drop, eqb}
 use Rattle.std.proofs.Math.Option.{Option, none, some}
@@ -26,9 +26,9 @@ section_in Output = output_line
 section_in Gate = gate_line
 
 -- The number, and the text after it.
-abbrev pub number-read : List ℕ → Number → Option (ℕ × List ℕ)
-number-read text (numbers.Is value at) = some (value, drop at text)
-number-read text numbers.Other = none
+abbrev pub number_read : List ℕ → Number → Option (ℕ × List ℕ)
+number_read text (numbers.Is value at) = some (value, drop at text)
+number_read text numbers.Other = none
 
 -- It ends in the text, or where that ends.
 abbrev pub NumberInside : List ℕ → Number → Type 0
@@ -53,8 +53,8 @@ FieldInside text fields.Other = Unit {0}
 abbrev pub numbers_in : l.Line → List ℕ
 numbers_in x = take x.count (x.first ∷ x.second ∷ x.third ∷ [])
 
-abbrev pub line-read : List ℕ → l.Line → Option (List ℕ × List ℕ)
-line-read text x = cond x.right (some (numbers_in x, drop x.next text)) none
+abbrev pub line_read : List ℕ → l.Line → Option (List ℕ × List ℕ)
+line_read text x = cond x.right (some (numbers_in x, drop x.next text)) none
 
 -- The numbers that a line has not are 0, and the next line begins in the text, or where it ends.
 pub record Padded (text : List ℕ) (x : l.Line) : Type 0 where

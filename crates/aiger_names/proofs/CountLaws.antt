@@ -14,7 +14,7 @@ use borrow.Author.Tests.{lt-ltb, le-ltb, eq-eqb, ne_eqb}
 use Rattle.memory.specs.Lists.{all_below, all_of, count_if}
 use Rattle.memory.proofs.ListLaws.{count-le}
 use Rattle.aiger.specs.AigerText.{Aiger, Section, input_line, latch_line, output_line, gate_line, line_count, line_at, section_of, uses_in, uses_of, node_count, node_among, is_defined}
-use Rattle.aiger_names.specs.Names.{node-in, uses_found, lines_found, use_count, DistinctBelow}
+use Rattle.aiger_names.specs.Names.{node_in, uses_found, lines_found, use_count, DistinctBelow}
 use Rattle.aiger_names.proofs.LineRowLaws.{section-case}
 use Rattle.aiger_names.proofs.WindowLaws.{among-has, among-least, distinct-zero, found_before}
 
@@ -46,27 +46,27 @@ count-all f (x ∷ xs) = go (f x) (count-all f xs)
 -- ---- windows one after the other
 
 module _ (a : Aiger) (s e : ℕ) (D : DistinctBelow a e) (o : s ≤ e) (inside : e ≤ node_count a.header) where
-  use-split : (u : ℕ) → cond (ltb (node-in a 0 s u) s) 1 0 + cond (ltb (node-in a s e u) e) 1 0 ≡ cond (ltb (node-in a 0 e u) e) 1 0
-  use-split u = elim (dec_lt (node-in a 0 s u) s) [
+  use-split : (u : ℕ) → cond (ltb (node_in a 0 s u) s) 1 0 + cond (ltb (node_in a s e u) e) 1 0 ≡ cond (ltb (node_in a 0 e u) e) 1 0
+  use-split u = elim (dec_lt (node_in a 0 s u) s) [
     | yes l ↦ (
         let p = among-has a 0 s (u / 2) l in
-        let k = among-least a 0 e (u / 2) (node-in a 0 s u) (omega arith) p in
-        rw (lt-ltb (node-in a 0 s u) s l, le-ltb (node-in a s e u) e (found_before a s e (u / 2) (node-in a 0 s u) D inside l (omega arith) p), lt-ltb (node-in a 0 e u) e (omega arith)))
-    | no l ↦ rw (le-ltb (node-in a 0 s u) s (omega arith)) (elim (dec_lt (node-in a s e u) e) [
+        let k = among-least a 0 e (u / 2) (node_in a 0 s u) (omega arith) p in
+        rw (lt-ltb (node_in a 0 s u) s l, le-ltb (node_in a s e u) e (found_before a s e (u / 2) (node_in a 0 s u) D inside l (omega arith) p), lt-ltb (node_in a 0 e u) e (omega arith)))
+    | no l ↦ rw (le-ltb (node_in a 0 s u) s (omega arith)) (elim (dec_lt (node_in a s e u) e) [
       | yes k ↦ (
-          let m = among-least a 0 e (u / 2) (node-in a s e u) (omega arith) (among-has a s e (u / 2) k) in
-          rw (lt-ltb (node-in a s e u) e k, lt-ltb (node-in a 0 e u) e (omega arith)))
-      | no k ↦ rw (le-ltb (node-in a s e u) e (omega arith), le-ltb (node-in a 0 e u) e (nowhere l k))
+          let m = among-least a 0 e (u / 2) (node_in a s e u) (omega arith) (among-has a s e (u / 2) k) in
+          rw (lt-ltb (node_in a s e u) e k, lt-ltb (node_in a 0 e u) e (omega arith)))
+      | no k ↦ rw (le-ltb (node_in a s e u) e (omega arith), le-ltb (node_in a 0 e u) e (nowhere l k))
     ])
   ]
     where
-      nowhere : ¬ (node-in a 0 s u < s) → ¬ (node-in a s e u < e) → e ≤ node-in a 0 e u
-      nowhere l k = elim (dec_lt (node-in a 0 e u) e) [
+      nowhere : ¬ (node_in a 0 s u < s) → ¬ (node_in a s e u < e) → e ≤ node_in a 0 e u
+      nowhere l k = elim (dec_lt (node_in a 0 e u) e) [
         | yes m ↦ (
             let p = among-has a 0 e (u / 2) m in
-            elim (dec_lt (node-in a 0 e u) s) [
-              | yes b ↦ absurd (omega (arith, among-least a 0 s (u / 2) (node-in a 0 e u) (omega arith) p))
-              | no b ↦ absurd (omega (arith, among-least a s e (u / 2) (node-in a 0 e u) (omega arith) p))
+            elim (dec_lt (node_in a 0 e u) s) [
+              | yes b ↦ absurd (omega (arith, among-least a 0 s (u / 2) (node_in a 0 e u) (omega arith) p))
+              | no b ↦ absurd (omega (arith, among-least a s e (u / 2) (node_in a 0 e u) (omega arith) p))
             ])
         | no m ↦ omega arith
       ]
@@ -74,7 +74,7 @@ module _ (a : Aiger) (s e : ℕ) (D : DistinctBelow a e) (o : s ≤ e) (inside :
   pub found-split : (m : ℕ) → lines_found a 0 s m + lines_found a s e m ≡ lines_found a 0 e m
   unfolding lines_found
   found-split zero = refl
-  found-split (suc m) = omega (arith, found-split m, count_add (λ (u : ℕ). ltb (node-in a 0 s u) s) (λ (u : ℕ). ltb (node-in a s e u) e) (λ (u : ℕ). ltb (node-in a 0 e u) e) use-split (uses_of a m))
+  found-split (suc m) = omega (arith, found-split m, count_add (λ (u : ℕ). ltb (node_in a 0 s u) s) (λ (u : ℕ). ltb (node_in a s e u) e) (λ (u : ℕ). ltb (node_in a 0 e u) e) use-split (uses_of a m))
 
 -- ---- all uses
 
@@ -99,19 +99,19 @@ module _ (a : Aiger) where
 
   module _ (s e : ℕ) where
     uses-found : (k : ℕ) → uses_found a s e k ≤ length (uses_of a k)
-    uses-found k = count-le (λ u. ltb (node-in a s e u) e) (uses_of a k)
+    uses-found k = count-le (λ u. ltb (node_in a s e u) e) (uses_of a k)
 
     found-upto : (m : ℕ) → lines_found a s e m ≤ uses_below m
     unfolding lines_found
     found-upto zero = omega arith
     found-upto (suc m) = omega (arith, found-upto m, uses-next m, uses-found m)
 
-    found-eqb : (m : ℕ) → eqb (lines_found a s e m) (uses_below m) ≡ all_below m (λ k. all_of (λ u. ltb (node-in a s e u) e) (uses_of a k))
+    found-eqb : (m : ℕ) → eqb (lines_found a s e m) (uses_below m) ≡ all_below m (λ k. all_of (λ u. ltb (node_in a s e u) e) (uses_of a k))
     unfolding lines_found
     found-eqb zero = eq-eqb 0 (uses_below 0) (omega arith)
     found-eqb (suc m) =
         parts-eqb (lines_found a s e m) (uses_found a s e m) (uses_below m) (length (uses_of a m)) _ _ refl (uses-next m) (found-upto m) (uses-found m)
-        ∙ ap₂ ◌&&◌ (found-eqb m) (count-all (λ u. ltb (node-in a s e u) e) (uses_of a m))
+        ∙ ap₂ ◌&&◌ (found-eqb m) (count-all (λ u. ltb (node_in a s e u) e) (uses_of a m))
 
     -- No line.
     pub found-start : lines_found a s e 0 ≡ 0

@@ -24,12 +24,12 @@ use Rattle.aiger_lines.specs.declared.Line.{Line}
 use Rattle.aiger_lines.specs.declared.Header as h
 use Rattle.aiger_lines.specs.declared.Section as s
 use Rattle.aiger_lines.specs.declared.Section.TheVariants.{Input, Latch, Output, Gate}
-use Rattle.aiger_lines.specs.Lines.{header_in, section_in, FewHeader, line-read, Padded, aiger_in, LineStart, LineHere, Counted}
+use Rattle.aiger_lines.specs.Lines.{header_in, section_in, FewHeader, line_read, Padded, aiger_in, LineStart, LineHere, Counted}
 use Rattle.aiger_lines.proofs.RightLaws.{padded-few}
 use Rattle.aiger_lines.proofs.LineLaws.{standing, next-line}
 use Rattle.name_tree.specs.Trees.{variable_at, entry_of, Tree}
 use Rattle.name_tree.proofs.TreeLaws.{variable-kept, tree-kept}
-use Rattle.aiger_names.specs.Names.{defines_at, row_of_line, found_in, WindowStands, WindowReady, node-in, uses_found, lines_found, use_offset, use_at, PairsLooked, NamesRoom, line_uses, defined_before, PairRoom, LiteralLooked, UsesLooked, LineLooked, LineTwice, LineLookedIs, LookedUp}
+use Rattle.aiger_names.specs.Names.{defines_at, row_of_line, found_in, WindowStands, WindowReady, node_in, uses_found, lines_found, use_offset, use_at, PairsLooked, NamesRoom, line_uses, defined_before, PairRoom, LiteralLooked, UsesLooked, LineLooked, LineTwice, LineLookedIs, LookedUp}
 use Rattle.aiger_names.specs.declared.Window.{Window}
 use Rattle.aiger_names.specs.declared.Looked.{Looked}
 use Rattle.aiger_names.specs.declared.Looked.TheVariants as looked
@@ -393,15 +393,15 @@ module _ (text : List ℕ) (base : ℕ) (win : Window) (w : List ℕ) (k : ℕ) 
   uses-are : line_uses (section_of a.header k) l ≡ uses_of a k
   uses-are = line-uses text k l H (section_of a.header k)
 
-  first-node : found_in w base win (l.first / 2) ≡ node-in a start end (number_at a k 0)
-  first-node = found-is a w base win S (l.first / 2) ∙ ap (node-in a start end) H.first
+  first-node : found_in w base win (l.first / 2) ≡ node_in a start end (number_at a k 0)
+  first-node = found-is a w base win S (l.first / 2) ∙ ap (node_in a start end) H.first
 
   module _ (fits : Bool) (w' : List ℕ) (m : ℕ) (L : LineLooked a.header fits base win k l w w' m) where
     count-here : m ≡ uses_found a start end k
     count-here =
         L.uses.count
-        ∙ count_same (λ u. ltb (found_in w base win (u / 2)) end) (λ u. ltb (node-in a start end u) end) (λ u. ap (λ (v : ℕ). ltb v end) (found-is a w base win S (u / 2))) (line_uses (section_of a.header k) l)
-        ∙ ap (count_if (λ u. ltb (node-in a start end u) end)) uses-are
+        ∙ count_same (λ u. ltb (found_in w base win (u / 2)) end) (λ u. ltb (node_in a start end u) end) (λ u. ap (λ (v : ℕ). ltb v end) (found-is a w base win S (u / 2))) (line_uses (section_of a.header k) l)
+        ∙ ap (count_if (λ u. ltb (node_in a start end u) end)) uses-are
 
     use-here : fits ≡ true → (i : ℕ) → i < length (uses_of a k) → UseLooked a start end k i w w'
     use-here t i h =
@@ -416,7 +416,7 @@ module _ (text : List ℕ) (base : ℕ) (win : Window) (w : List ℕ) (k : ℕ) 
         ∙ ap (λ (n : ℕ). cond (leb n 1) n 2) H.third
         ∙ reset-is (line_at a k) (omega (arith, H.count))
 
-    later-here : defines_at a.header k ≡ true → end ≤ row_of_line a.header k → node-in a start end (number_at a k 0) ≡ end
+    later-here : defines_at a.header k ≡ true → end ≤ row_of_line a.header k → node_in a start end (number_at a k 0) ≡ end
     later-here d h =
         let f : ltb (found_in w base win (l.first / 2)) end ≡ false = rw (d, le-leb end (row_of_line a.header k) h) at L.fresh in
         omega (arith, first-node, ltb-false (found_in w base win (l.first / 2)) end f, found-le a w base win S (l.first / 2))
@@ -444,7 +444,7 @@ pub record LookTo (text : List ℕ) (fits : Bool) (base : ℕ) (win : Window) (w
   pub inside : k ≤ line_count (aiger_in text).header
   pub start : LineStart text k at
   pub found : n ≡ lines_found (aiger_in text) win.start win.end k
-  pub later : (j : ℕ) → j < k → defines_at (aiger_in text).header j ≡ true → win.end ≤ row_of_line (aiger_in text).header j → node-in (aiger_in text) win.start win.end (number_at (aiger_in text) j 0) ≡ win.end
+  pub later : (j : ℕ) → j < k → defines_at (aiger_in text).header j ≡ true → win.end ≤ row_of_line (aiger_in text).header j → node_in (aiger_in text) win.start win.end (number_at (aiger_in text) j 0) ≡ win.end
   pub pairs : fits ≡ true → PairsLooked (aiger_in text) win.start win.end k w₀ w
   pub kept : KeptOutside 0 base w₀ w
 
@@ -484,7 +484,7 @@ module _ (text : List ℕ) (x : h.Header) (from : ℕ) (fits : Bool) (base : ℕ
       pub look-inside : win.end ≤ node_count (header_in x)
       look-inside = omega (arith, S.inside, ap node_count C.header)
 
-      module _ (lines : ℕ) (l : Line) (w' : List ℕ) (r : Looked) (count : lines ≡ line_count (header_in x)) (among : k < lines) (read : line-read text l ≡ line 3 (drop at text)) (pad : Padded text l) (is : LineLookedIs (header_in x) fits base win k l w w' r) where
+      module _ (lines : ℕ) (l : Line) (w' : List ℕ) (r : Looked) (count : lines ≡ line_count (header_in x)) (among : k < lines) (read : line_read text l ≡ line 3 (drop at text)) (pad : Padded text l) (is : LineLookedIs (header_in x) fits base win k l w w' r) where
         among-text : k < line_count (aiger_in text).header
         among-text = omega (arith, ap line_count C.header)
 

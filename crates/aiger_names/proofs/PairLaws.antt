@@ -16,7 +16,7 @@ use Rattle.memory.proofs.FrameLaws.{u16-kept, kept-wider}
 use Rattle.aiger.specs.AigerText.{Header, Aiger, Section, latch_line, output_line, gate_line, line_count, line_at, section_of, uses_in, uses_of, node_count, node_of, is_defined}
 use Rattle.aiger.specs.AigerRows.{latch_line_of, output_line_of, gate_line_of, row_literal, reset_code}
 use Rattle.aiger.proofs.NodeLaws.{row-places, latch-section, output-section, gate-section, latch-uses, gate-uses, output-uses}
-use Rattle.aiger_names.specs.Names.{row_of_line, node-in, DistinctBelow, use_offset, use_at, PairsLooked, PairsBelow, ResetsStand, PairsStand}
+use Rattle.aiger_names.specs.Names.{row_of_line, node_in, DistinctBelow, use_offset, use_at, PairsLooked, PairsBelow, ResetsStand, PairsStand}
 use Rattle.aiger_names.proofs.LineRowLaws.{rows_apart, row_inside, early-row, output-row, gate-row}
 use Rattle.aiger_names.proofs.WindowLaws.{found_before, found-only}
 use Rattle.aiger_names.proofs.CountLaws.{uses-few}
@@ -26,7 +26,7 @@ use Rattle.aiger_names.proofs.CountLaws.{uses-few}
 -- Use i of line k is looked up: it is set if the window has it, and stays if not.
 abbrev pub UseLooked : Aiger → ℕ → ℕ → ℕ → ℕ → List ℕ → List ℕ → Type 0
 UseLooked a s e k i w w' =
-    u16_at w' (use_offset a.header k i) ≡ cond (ltb (node-in a s e (use_at a k i)) e) (2 * node-in a s e (use_at a k i) + use_at a k i % 2) (u16_at w (use_offset a.header k i))
+    u16_at w' (use_offset a.header k i) ≡ cond (ltb (node_in a s e (use_at a k i)) e) (2 * node_in a s e (use_at a k i) + use_at a k i % 2) (u16_at w (use_offset a.header k i))
 
 pub looked-none : (a : Aiger) (s e : ℕ) (w : List ℕ) → PairsLooked a s e 0 w w
 looked-none a s e w = record {
@@ -94,9 +94,9 @@ module _ (a : Aiger) where
       → e ≤ node_count a.header
       → PairsBelow a e w'
   pairs_next s e w w' B P D o inside k i v l n h q = elim (dec_lt v s) [
-    | yes b ↦ P.uses k i l n ∙ rw (le-ltb (node-in a s e (use_at a k i)) e (found_before a s e (use_at a k i / 2) v D inside b h q)) (B k i v l n b q)
+    | yes b ↦ P.uses k i l n ∙ rw (le-ltb (node_in a s e (use_at a k i)) e (found_before a s e (use_at a k i / 2) v D inside b h q)) (B k i v l n b q)
     | no b ↦ (
-        let t : node-in a s e (use_at a k i) ≡ v = found-only a s e (use_at a k i / 2) v D inside (omega arith) h q in
+        let t : node_in a s e (use_at a k i) ≡ v = found-only a s e (use_at a k i / 2) v D inside (omega arith) h q in
         P.uses k i l n ∙ rw (t, lt-ltb v e h))
   ]
 

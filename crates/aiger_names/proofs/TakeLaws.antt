@@ -17,7 +17,7 @@ use Rattle.aiger.specs.AigerReading as reading
 use Rattle.aiger_lines.specs.declared.Line.{Line}
 use Rattle.aiger_lines.specs.declared.Header as h
 use Rattle.aiger_lines.specs.declared.Section as s
-use Rattle.aiger_lines.specs.Lines.{header_in, section_in, line-read, Padded, FewHeader, aiger_in, lines_stand, LineHere, Counted}
+use Rattle.aiger_lines.specs.Lines.{header_in, section_in, line_read, Padded, FewHeader, aiger_in, lines_stand, LineHere, Counted}
 use Rattle.aiger_lines.proofs.LineLaws.{standing, next-line}
 use Rattle.aiger_names.specs.Names.{name_bytes, defines_in, defines_at, nodes_before, PlaceIs, WindowStands, CountsUp, TreeHas, lines_found, use_count, DistinctBelow, use_offset, PairsLooked, PairsBelow, ResetsStand, PairsStand, NamesRoom, TreeFilled, FilledIs, LookedUp, LookedIs, WindowTaken, TakenIs}
 use Rattle.aiger_names.specs.declared.Window.{Window}
@@ -73,7 +73,7 @@ module _
     (stand : lines_stand text ≡ true) (same : header_in x ≡ (aiger_in text).header)
     (P : PlaceIs text (place_at line node at))
     (count : lines ≡ line_count (header_in x)) (below : line < lines)
-    (read : line-read text l ≡ reading.line 3 (drop at text)) (pad : Padded text l)
+    (read : line_read text l ≡ reading.line 3 (drop at text)) (pad : Padded text l)
     (sec : section_in section ≡ section_of (header_in x) line) (def : b ≡ defines_in (section_in section))
   where
     among : line < line_count (aiger_in text).header
@@ -148,7 +148,7 @@ module _
     (stand : lines_stand text ≡ true) (same : header_in x ≡ (aiger_in text).header)
     (F : Filling text place base capacity w₀ w line at count)
     (counted : lines ≡ line_count (header_in x)) (below : line < lines)
-    (read : line-read text l ≡ reading.line 3 (drop at text)) (pad : Padded text l)
+    (read : line_read text l ≡ reading.line 3 (drop at text)) (pad : Padded text l)
     (sec : section_in section ≡ section_of (header_in x) line) (def : b ≡ defines_in (section_in section))
   where
     half : b ≡ true → node_literal (aiger_in text) (place.node + count) ≡ 2 * (l.first / 2)

@@ -14,7 +14,7 @@ use Rattle.memory.proofs.ListLaws.{all_below-of, all_below-no, First, first-is, 
 use Rattle.name_tree.specs.Trees.{variable_at, entry_of}
 use Rattle.name_tree.proofs.TreeLaws.{variable-kept, tree-kept}
 use Rattle.aiger.specs.AigerText.{Aiger, line_count, number_at, node_count, node_literal, node_among, lines_right, is_distinct}
-use Rattle.aiger_names.specs.Names.{defines_at, row_of_line, found_in, WindowStands, node-in, DistinctBelow}
+use Rattle.aiger_names.specs.Names.{defines_at, row_of_line, found_in, WindowStands, node_in, DistinctBelow}
 use Rattle.aiger_names.specs.declared.Window.{Window}
 use Rattle.aiger_names.proofs.LineRowLaws.{row_below, line-of-node, node-literal-at, node-even}
 
@@ -122,7 +122,7 @@ module _ (a : Aiger) (w : List ℕ) (base : ℕ) (win : Window) (S : WindowStand
 
 module _ (a : Aiger) where
   -- The node's literal is not in the window.
-  pub absent-apart : (s e r i : ℕ) → node_literal a r % 2 ≡ 0 → node-in a s e (node_literal a r) ≡ e → s ≤ i → i < e → ¬ (node_literal a i ≡ node_literal a r)
+  pub absent-apart : (s e r i : ℕ) → node_literal a r % 2 ≡ 0 → node_in a s e (node_literal a r) ≡ e → s ≤ i → i < e → ¬ (node_literal a i ≡ node_literal a r)
   absent-apart s e r i even n h l q = omega (arith, among-least a s e (node_literal a r / 2) i h (omega arith))
 
   pub distinct-zero : DistinctBelow a 0
@@ -148,11 +148,11 @@ module _ (a : Aiger) where
   twice i j k l e = all_below-no (node_count a.header) _ j l (all_below-no j _ i k (rw (eq-eqb (node_literal a i) (node_literal a j) e)))
 
   -- An earlier node that has the node's literal.
-  pub found-twice : (s e r : ℕ) → node_literal a r % 2 ≡ 0 → s ≤ e → (node-in a s e (node_literal a r) ≡ e → ⊥) → e ≤ r → r < node_count a.header → is_distinct a ≡ false
+  pub found-twice : (s e r : ℕ) → node_literal a r % 2 ≡ 0 → s ≤ e → (node_in a s e (node_literal a r) ≡ e → ⊥) → e ≤ r → r < node_count a.header → is_distinct a ≡ false
   found-twice s e r even o n h l =
       let u = among-upto a s e (node_literal a r / 2) o in
-      let k : node-in a s e (node_literal a r) < e = elim (dec_lt (node-in a s e (node_literal a r)) e) [ yes k ↦ k | no k ↦ absurd (n (omega arith)) ] in
-      twice (node-in a s e (node_literal a r)) r (omega arith) l (omega (arith, among-has a s e (node_literal a r / 2) k))
+      let k : node_in a s e (node_literal a r) < e = elim (dec_lt (node_in a s e (node_literal a r)) e) [ yes k ↦ k | no k ↦ absurd (n (omega arith)) ] in
+      twice (node_in a s e (node_literal a r)) r (omega arith) l (omega (arith, among-has a s e (node_literal a r / 2) k))
 
   -- A variable whose node stands before the window is not found there; one whose node stands in it is found at that node.
   module _ (s e x v : ℕ) (D : DistinctBelow a e) (inside : e ≤ node_count a.header) where
@@ -175,7 +175,7 @@ module _ (a : Aiger) where
 module _ (a : Aiger) (right : lines_right a ≡ true) (s e : ℕ) where
   -- The window has no definition of a later line, so no later node's literal.
   pub later-apart :
-      ((k : ℕ) → k < line_count a.header → defines_at a.header k ≡ true → e ≤ row_of_line a.header k → node-in a s e (number_at a k 0) ≡ e)
+      ((k : ℕ) → k < line_count a.header → defines_at a.header k ≡ true → e ≤ row_of_line a.header k → node_in a s e (number_at a k 0) ≡ e)
       → (r : ℕ)
       → e ≤ r
       → r < node_count a.header
@@ -186,10 +186,10 @@ module _ (a : Aiger) (right : lines_right a ≡ true) (s e : ℕ) where
   later-apart absent r h l i p q =
       let n = line-of-node a.header r (omega arith) l in
       let d : node_literal a r ≡ number_at a n.0 0 = ap (node_literal a) (sym n.3) ∙ node-literal-at a n.0 n.1 n.2 in
-      absent-apart a s e r i (node-even a r right l) (ap (node-in a s e) d ∙ absent n.0 n.1 n.2 (rw n.3 h)) p q
+      absent-apart a s e r i (node-even a r right l) (ap (node_in a s e) d ∙ absent n.0 n.1 n.2 (rw n.3 h)) p q
 
   -- The window has the definition of a later line.
-  pub line-twice : (k : ℕ) → s ≤ e → k < line_count a.header → defines_at a.header k ≡ true → e ≤ row_of_line a.header k → (node-in a s e (number_at a k 0) ≡ e → ⊥) → is_distinct a ≡ false
+  pub line-twice : (k : ℕ) → s ≤ e → k < line_count a.header → defines_at a.header k ≡ true → e ≤ row_of_line a.header k → (node_in a s e (number_at a k 0) ≡ e → ⊥) → is_distinct a ≡ false
   line-twice k o l t h n =
       let b = row_below a.header k l t in
-      found-twice a s e (row_of_line a.header k) (node-even a (row_of_line a.header k) right b) o (λ q. n (ap (node-in a s e) (sym (node-literal-at a k l t)) ∙ q)) h b
+      found-twice a s e (row_of_line a.header k) (node-even a (row_of_line a.header k) right b) o (λ q. n (ap (node_in a s e) (sym (node-literal-at a k l t)) ∙ q)) h b

@@ -82,12 +82,12 @@ pub record TreeHas (a : Aiger) (w : List ℕ) (base s n : ℕ) : Type 0 where
   pub literals : (j : ℕ) → j < n → node_literal a (s + j) ≡ 2 * variable_at w base j
 
 -- The node of s to e - 1 that has the literal's variable; e if none has.
-abbrev pub node-in : Aiger → ℕ → ℕ → ℕ → ℕ
-node-in a s e u = node_among a s (e - s) (u / 2)
+abbrev pub node_in : Aiger → ℕ → ℕ → ℕ → ℕ
+node_in a s e u = node_among a s (e - s) (u / 2)
 
 -- How many of the uses of line k, and of the first m lines, have a node of s to e - 1.
 abbrev pub uses_found : Aiger → ℕ → ℕ → ℕ → ℕ
-uses_found a s e k = count_if (λ (u : ℕ). ltb (node-in a s e u) e) (uses_of a k)
+uses_found a s e k = count_if (λ (u : ℕ). ltb (node_in a s e u) e) (uses_of a k)
 
 unfoldable pub lines_found : Aiger → ℕ → ℕ → ℕ → ℕ
 lines_found a s e zero = 0
@@ -111,7 +111,7 @@ use_at a k i = get_or (uses_of a k) i 0
 
 -- The first m lines are looked up: a use that the window has is set, another one stays.
 pub record PairsLooked (a : Aiger) (s e m : ℕ) (w w' : List ℕ) : Type 0 where
-  pub uses : (k i : ℕ) → k < m → i < length (uses_of a k) → u16_at w' (use_offset a.header k i) ≡ cond (ltb (node-in a s e (use_at a k i)) e) (2 * node-in a s e (use_at a k i) + use_at a k i % 2) (u16_at w (use_offset a.header k i))
+  pub uses : (k i : ℕ) → k < m → i < length (uses_of a k) → u16_at w' (use_offset a.header k i) ≡ cond (ltb (node_in a s e (use_at a k i)) e) (2 * node_in a s e (use_at a k i) + use_at a k i % 2) (u16_at w (use_offset a.header k i))
   pub resets : (k : ℕ) → k < m → section_of a.header k ≡ latch_line → u16_at w' (4 * row_of_line a.header k + 2) ≡ reset_code (line_at a k)
   pub later : (k i : ℕ) → m ≤ k → k < line_count a.header → i < 2 → u16_at w' (use_offset a.header k i) ≡ u16_at w (use_offset a.header k i)
 
@@ -194,7 +194,7 @@ LineLookedIs h fits base win k l w w' looked.Twice = LineTwice h base win k l w
 -- The whole walk for the window of nodes s to e - 1: n uses are found, no later definition is one of the window's.
 pub record LookedUp (a : Aiger) (fits : Bool) (base s e : ℕ) (w w' : List ℕ) (n : ℕ) : Type 0 where
   pub found : n ≡ lines_found a s e (line_count a.header)
-  pub later : (k : ℕ) → k < line_count a.header → defines_at a.header k ≡ true → e ≤ row_of_line a.header k → node-in a s e (number_at a k 0) ≡ e
+  pub later : (k : ℕ) → k < line_count a.header → defines_at a.header k ≡ true → e ≤ row_of_line a.header k → node_in a s e (number_at a k 0) ≡ e
   pub pairs : fits ≡ true → PairsLooked a s e (line_count a.header) w w'
   pub kept : KeptOutside 0 base w w'
 

@@ -12,7 +12,7 @@ use Rattle.memory.proofs.TestLaws.{last_or}
 use Rattle.memory.proofs.SlotLaws.{slot_same, slot-other}
 use Rattle.netlist.specs.Rows.{Row, constant, input, register, and_gate, xor_gate, mux_gate, output, row_at, fanin_nodes}
 use Rattle.netlist.specs.WellFormed.{UnorderedRows}
-use Rattle.ordering.specs.GateOrder.{is_gate, operands-of}
+use Rattle.ordering.specs.GateOrder.{is_gate, operands_of}
 use Rattle.ordering.proofs.PlacingLaws.{among-at, at_of}
 use Rattle.gate_rows.specs.Sources.{source_rows, Source}
 use Rattle.gate_rows.specs.declared.Layout.{Layout}
@@ -22,7 +22,7 @@ use Rattle.gate_loops.specs.Walk.{settled_slot, first_slot, SourcesSettled, Unse
 -- ---- operands
 
 -- What has an operand is a gate.
-pub operand-words : (r : Row) (x : ℕ) → Among x (operands-of r) → (is_gate r ≡ true) × Among x (fanin_nodes r)
+pub operand-words : (r : Row) (x : ℕ) → Among x (operands_of r) → (is_gate r ≡ true) × Among x (fanin_nodes r)
 operand-words r x a = go (is_gate r) refl a
   where
     go : (t : Bool) → is_gate r ≡ t → Among x (cond t (fanin_nodes r) []) → (is_gate r ≡ true) × Among x (fanin_nodes r)
@@ -35,7 +35,7 @@ first-no-gate rows U g = false≢true (sym (ap is_gate U.constant-first) ∙ g)
 
 -- ---- a row that is no gate has no operands, and is settled before any walk
 
-pub slot-settled : (r : Row) (n : ℕ) → n ≡ length (operands-of r) → n ≡ 0 → settled_slot ≡ first_slot r
+pub slot-settled : (r : Row) (n : ℕ) → n ≡ length (operands_of r) → n ≡ 0 → settled_slot ≡ first_slot r
 slot-settled constant n e z = refl
 slot-settled (input _ _) n e z = refl
 slot-settled (register _ _ _) n e z = refl
@@ -44,7 +44,7 @@ slot-settled (xor_gate _ _) n e z = absurd (omega arith)
 slot-settled (mux_gate _ _ _) n e z = absurd (omega arith)
 slot-settled (output _ _ _) n e z = refl
 
-pub slot-unseen : (r : Row) (n : ℕ) → n ≡ length (operands-of r) → ¬ (n ≡ 0) → 0 ≡ first_slot r
+pub slot-unseen : (r : Row) (n : ℕ) → n ≡ length (operands_of r) → ¬ (n ≡ 0) → 0 ≡ first_slot r
 slot-unseen constant n e z = absurd (z e)
 slot-unseen (input _ _) n e z = absurd (z e)
 slot-unseen (register _ _ _) n e z = absurd (z e)
@@ -77,7 +77,7 @@ module _ (layout : Layout) (f : List ℕ) (n : ℕ) (Q : Source layout f n) wher
 
   module _ (row : ℕ) (h : row < n) where
     abbrev operands : List ℕ
-    operands = operands-of (row_at (source_rows layout f) row)
+    operands = operands_of (row_at (source_rows layout f) row)
 
     module _ (count index node : ℕ) (size : count ≡ length operands) (l : index < count) (e : node ≡ get_or operands index 0) where
       named : Among node operands
@@ -98,19 +98,19 @@ module _ (layout : Layout) (f : List ℕ) (n : ℕ) (Q : Source layout f n) wher
 
 -- The operands before number m are settled.
 pub record PassedBelow (rows : List Row) (w : List ℕ) (i m : ℕ) : Type 0 where
-  pub settled : (k : ℕ) → k < m → slot_at w (get_or (operands-of (row_at rows i)) k 0) ≡ settled_slot
+  pub settled : (k : ℕ) → k < m → slot_at w (get_or (operands_of (row_at rows i)) k 0) ≡ settled_slot
 
 pub passed_none : (rows : List Row) (w : List ℕ) (i : ℕ) → PassedBelow rows w i 0
 passed_none rows w i = record { settled = λ k h. absurd (omega arith) }
 
-pub passed-more : (rows : List Row) (w : List ℕ) (i m node s : ℕ) → PassedBelow rows w i m → node ≡ get_or (operands-of (row_at rows i)) m 0 → s ≡ slot_at w node → s ≡ settled_slot → PassedBelow rows w i (m + 1)
+pub passed-more : (rows : List Row) (w : List ℕ) (i m node s : ℕ) → PassedBelow rows w i m → node ≡ get_or (operands_of (row_at rows i)) m 0 → s ≡ slot_at w node → s ≡ settled_slot → PassedBelow rows w i (m + 1)
 passed-more rows w i m node s P e q z = record { settled = λ k h. last_or k m (omega arith) (P.settled k) (λ d. rw (d, ← e, ← q) z) }
 
-pub all-passed : (layout : Layout) (f : List ℕ) (n : ℕ) → Source layout f n → (w : List ℕ) (row m count : ℕ) → row < n → count ≡ length (operands-of (row_at (source_rows layout f) row)) → count ≤ m → PassedBelow (source_rows layout f) w row m → Unsettled (source_rows layout f) w row 0
+pub all-passed : (layout : Layout) (f : List ℕ) (n : ℕ) → Source layout f n → (w : List ℕ) (row m count : ℕ) → row < n → count ≡ length (operands_of (row_at (source_rows layout f) row)) → count ≤ m → PassedBelow (source_rows layout f) w row m → Unsettled (source_rows layout f) w row 0
 all-passed layout f n Q w row m count h e l P = record {
   inside = omega (arith, Q.count);
   none = λ _ _ j a.
-      let r = at_of j (operands-of (row_at (source_rows layout f) row)) a in
+      let r = at_of j (operands_of (row_at (source_rows layout f) row)) a in
       ap (slot_at w) (sym r.2) ∙ P.settled r.0 (omega (arith, r.1));
   some = λ z. absurd (z refl);
 }

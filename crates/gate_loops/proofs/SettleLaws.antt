@@ -12,7 +12,7 @@ use Rattle.memory.specs.Lists.{Among}
 use Rattle.memory.specs.Slots.{slot_at, set_slot}
 use Rattle.memory.proofs.SlotLaws.{slot-other}
 use Rattle.netlist.specs.Rows.{Row, row_at}
-use Rattle.ordering.specs.GateOrder.{operands-of, Grounded}
+use Rattle.ordering.specs.GateOrder.{operands_of, Grounded}
 use Rattle.gate_rows.specs.Sources.{source_rows, Source}
 use Rattle.gate_rows.specs.declared.Layout.{Layout}
 use Rattle.gate_rows.proofs.RowLaws.{row_inside}
@@ -72,7 +72,7 @@ module _ (layout : Layout) (f w₀ w : List ℕ) (n root row : ℕ) (S : Standin
     -- ---- the row waits for none
 
     module _ (none : next ≡ 0) (s : ℕ) (e : s ≡ slot_at w row) (w' : List ℕ) (q : w' ≡ set_slot w row settled_slot) where
-      all : (j : ℕ) → Among j (operands-of (row_at rows row)) → slot_at w j ≡ settled_slot
+      all : (j : ℕ) → Among j (operands_of (row_at rows row)) → slot_at w j ≡ settled_slot
       all = N.none none (W.settled.sources 0 (omega (arith, N.inside)) (first-no-gate rows S.ready.rows))
 
       pub walk_ends : (v : List ℕ) → WalkReady rows v root → w₀ ≡ set_slot v root 1 → s ≡ 1 → Walked rows v w' root

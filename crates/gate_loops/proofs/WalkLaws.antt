@@ -16,7 +16,7 @@ use Rattle.memory.proofs.TestLaws.{and-true, passes, last_or}
 use Rattle.memory.proofs.SlotLaws.{slot_same, slot-other}
 use Rattle.netlist.specs.Rows.{Row, row_at}
 use Rattle.netlist.specs.WellFormed.{UnorderedRows}
-use Rattle.ordering.specs.GateOrder.{is_gate, operands-of, Grounded, grounded}
+use Rattle.ordering.specs.GateOrder.{is_gate, operands_of, Grounded, grounded}
 use Rattle.gate_rows.proofs.RowLaws.{operand_below}
 use Rattle.gate_loops.specs.Walk.{settled_slot, is_open, Settled, NoneOpen, Walked}
 use Rattle.gate_loops.proofs.RowLaws.{operand-words, first-no-gate}
@@ -60,7 +60,7 @@ module _ (w : List ℕ) (j v : ℕ) (room : 2 * j + 2 ≤ length w) (small : v <
 
 -- Row y names row x.
 abbrev Names : List Row → ℕ → ℕ → Type 0
-Names rows y x = Among x (operands-of (row_at rows y))
+Names rows y x = Among x (operands_of (row_at rows y))
 
 -- The open rows, the last one first: each is named by the one behind it, and its slot says so; the slot of the last is 1.
 abbrev Linked : List Row → List ℕ → List ℕ → Type 0

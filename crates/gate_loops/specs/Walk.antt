@@ -5,7 +5,7 @@ use Rattle.std.specs.Prelude.{ℕ, ◌<◌, ◌≡◌, Bool, true, cond, ◌&&�
 use Rattle.memory.specs.Lists.{Among}
 use Rattle.memory.specs.Slots.{slot_at}
 use Rattle.netlist.specs.Rows.{Row, row_at}
-use Rattle.ordering.specs.GateOrder.{is_gate, operands-of, Grounded}
+use Rattle.ordering.specs.GateOrder.{is_gate, operands_of, Grounded}
 
 abbrev pub settled_slot : ℕ
 settled_slot = 65535
@@ -24,8 +24,8 @@ SourcesSettled rows w = (x : ℕ) → x < length rows → slot_at w x ≡ first_
 -- r is the node that row i waits for: one that it names and that is not settled; 0 if it waits for none, where row 0 is settled.
 pub record Unsettled (rows : List Row) (w : List ℕ) (i r : ℕ) : Type 0 where
   pub inside : r < length rows
-  pub none : r ≡ 0 → slot_at w 0 ≡ settled_slot → (j : ℕ) → Among j (operands-of (row_at rows i)) → slot_at w j ≡ settled_slot
-  pub some : ¬ (r ≡ 0) → Among r (operands-of (row_at rows i)) × (¬ (slot_at w r ≡ settled_slot))
+  pub none : r ≡ 0 → slot_at w 0 ≡ settled_slot → (j : ℕ) → Among j (operands_of (row_at rows i)) → slot_at w j ≡ settled_slot
+  pub some : ¬ (r ≡ 0) → Among r (operands_of (row_at rows i)) × (¬ (slot_at w r ≡ settled_slot))
 
 -- A settled gate is grounded, and a row that is no gate is settled.
 pub record Settled (rows : List Row) (w : List ℕ) : Type 0 where

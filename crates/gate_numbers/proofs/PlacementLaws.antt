@@ -14,7 +14,7 @@ use Rattle.memory.specs.Slots.{slot_at}
 use Rattle.memory.proofs.TestLaws.{and-true, fails}
 use Rattle.netlist.specs.Rows.{Row, row_at}
 use Rattle.netlist.specs.WellFormed.{Unordered}
-use Rattle.ordering.specs.GateOrder.{is_gate, operands-of, is_in, new_number}
+use Rattle.ordering.specs.GateOrder.{is_gate, operands_of, is_in, new_number}
 use Rattle.ordering.proofs.PlacingLaws.{in-of, in_is, among-end, all-at}
 use Rattle.ready_gates.specs.ReadySlots.{ready_slot}
 use Rattle.gate_rows.proofs.RowLaws.{operands-nodes}
@@ -77,14 +77,14 @@ module _ (rows : List Row) (order : List ℕ) (r : ℕ) where
     pub inside : r < length rows
     pub unplaced : is_in r order ≡ false
     pub ready : gate_of rows (λ j. is_in j order) r ≡ true
-    pub closed : (i j : ℕ) → i < length rows → is_in i order ≡ true → Among j (operands-of (row_at rows i)) → is_in j order ≡ true
+    pub closed : (i j : ℕ) → i < length rows → is_in i order ≡ true → Among j (operands_of (row_at rows i)) → is_in j order ≡ true
 
   module _ (N : Next) where
     user-unready : (i : ℕ) → uses rows i r ≡ true → gate_of rows (λ j. is_in j order) i ≡ false
-    user-unready i u = fails (gate_of rows (λ j. is_in j order) i) (λ t. false≢true (sym N.unplaced ∙ all-at (λ j. is_in j order) (operands-of (row_at rows i)) (and-true (is_gate (row_at rows i)) _ t).1 r (in_is r (operands-of (row_at rows i)) u)))
+    user-unready i u = fails (gate_of rows (λ j. is_in j order) i) (λ t. false≢true (sym N.unplaced ∙ all-at (λ j. is_in j order) (operands_of (row_at rows i)) (and-true (is_gate (row_at rows i)) _ t).1 r (in_is r (operands_of (row_at rows i)) u)))
 
     user-unplaced : (i : ℕ) → i < length rows → uses rows i r ≡ true → is_in i order ≡ false
-    user-unplaced i l u = fails (is_in i order) (λ t. false≢true (sym N.unplaced ∙ N.closed i r l t (in_is r (operands-of (row_at rows i)) u)))
+    user-unplaced i l u = fails (is_in i order) (λ t. false≢true (sym N.unplaced ∙ N.closed i r l t (in_is r (operands_of (row_at rows i)) u)))
 
     user-other : (i : ℕ) → uses rows i r ≡ true → i ≡ r → ⊥
     user-other i u e = false≢true (sym (user-unready i u) ∙ rw e N.ready)
@@ -107,7 +107,7 @@ module _ (rows : List Row) (order : List ℕ) (r : ℕ) where
           go : (t : Bool) → is_in i order ≡ t → slot_for rows order i ≡ slot_for rows order' i
           go true e = rw (in-other i r order d, e) (ap (λ (x : ℕ). placed_slot + x) (sym (number-left order (r ∷ []) i e)))
           go false e = rw (in-other i r order d, e) (ap (λ (t : Bool). cond t ready_slot 0) (gate-cong rows (λ j. is_in j order) (λ j. is_in j order') i (λ j a.
-              sym (in-other j r order (λ q. true≢false (sym (in-of r (operands-of (row_at rows i)) (subst (λ (z : ℕ). Among z (operands-of (row_at rows i))) q a)) ∙ u))))))
+              sym (in-other j r order (λ q. true≢false (sym (in-of r (operands_of (row_at rows i)) (subst (λ (z : ℕ). Among z (operands_of (row_at rows i))) q a)) ∙ u))))))
 
       pub next-placed : (w'' : List ℕ) → Woken rows (users_of rows r) w' w'' → Placed rows order' w''
       next-placed w'' W = record { slots = λ i l. W.slots i l ∙ rw (ready-next i l) (go i l (uses rows i r) refl) }

@@ -16,7 +16,7 @@ use Rattle.memory.proofs.ListLaws.{first-is, first_found, first_cong}
 use Rattle.memory.proofs.SlotLaws.{slot-other}
 use Rattle.netlist.specs.Rows.{Row, row_at, is_output, fanin_nodes}
 use Rattle.questions.specs.Questions.{no_refusal}
-use Rattle.ordering.specs.GateOrder.{is_gate, is_source, operands-of, is_in, is_ready, rows_that, new_number, lowest_ready, placed_gates, gate_order, sorted_order, IsGateOrder}
+use Rattle.ordering.specs.GateOrder.{is_gate, is_source, operands_of, is_in, is_ready, rows_that, new_number, lowest_ready, placed_gates, gate_order, sorted_order, IsGateOrder}
 use Rattle.ordering.specs.SortQuestions.{loop_refusal}
 use Rattle.ordering.proofs.PlacingLaws.{in-of, in_is, among-at, at_of, placed-well, order_is}
 use Rattle.ordering.proofs.OrderLaws.{among-append, below-is, source-no-gate, node-no-output}
@@ -119,7 +119,7 @@ module _ (layout : Layout) (f : List ℕ) (n : ℕ) (F : Source layout f n) wher
       go false g = rw g (and_none (not (is_in i (S ++ placed))))
 
   -- The order has what its gates name.
-  closed : (k i j : ℕ) → i < length rows → is_in i (after k) ≡ true → Among j (operands-of (row_at rows i)) → is_in j (after k) ≡ true
+  closed : (k i j : ℕ) → i < length rows → is_in i (after k) ≡ true → Among j (operands_of (row_at rows i)) → is_in j (after k) ≡ true
   closed k i j l e a = elim (among-append i S (placed_gates rows k) (in_is i (after k) e)) [
     | inl b ↦ absurd (elim (rw (fails (is_gate (row_at rows i)) (source-no-gate (row_at rows i) (below-is rows is_source (length rows) i b).1)) at a) [ ])
     | inr b ↦ sym (node-in rows (placed_gates rows k) j (operands-nodes rows (row_at rows i) (F.rows.operands i l) j a)) ∙ go (is_gate (row_at rows j)) refl (at_of i (placed_gates rows k) b)

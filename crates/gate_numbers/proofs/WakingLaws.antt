@@ -15,7 +15,7 @@ use Rattle.memory.proofs.SlotLaws.{slot-other}
 use Rattle.memory.proofs.TestLaws.{and-true, fails}
 use Rattle.netlist.specs.Rows.{Row, constant, input, register, and_gate, xor_gate, mux_gate, output, row_at}
 use Rattle.netlist.specs.WellFormed.{Unordered}
-use Rattle.ordering.specs.GateOrder.{is_gate, operands-of}
+use Rattle.ordering.specs.GateOrder.{is_gate, operands_of}
 use Rattle.ordering.proofs.PlacingLaws.{among-at, at_of, all-at, all-of}
 use Rattle.ready_gates.specs.ReadySlots.{ready_slot, ReadyMarked, MadeReady}
 use Rattle.ready_gates.proofs.ReadyLaws.{marked-placed}
@@ -28,10 +28,10 @@ use Rattle.gate_numbers.specs.Numbers.{placed_slot, is_placed_in, gate_of, users
 
 -- ---- the operands of a gate
 
-operands-none : (r : Row) → is_gate r ≡ false → length (operands-of r) ≡ 0
+operands-none : (r : Row) → is_gate r ≡ false → length (operands_of r) ≡ 0
 operands-none r g = rw g refl
 
-operands-some : (r : Row) → is_gate r ≡ true → 0 < length (operands-of r)
+operands-some : (r : Row) → is_gate r ≡ true → 0 < length (operands_of r)
 operands-some constant g = absurd (false≢true g)
 operands-some (input _ _) g = absurd (false≢true g)
 operands-some (register _ _ _) g = absurd (false≢true g)
@@ -45,18 +45,18 @@ all-cong f g [] h = refl
 all-cong f g (j ∷ js) h = rw (h j here, all-cong f g js (λ i a. h i (there a)))
 
 -- Tests that agree on nodes agree on gates.
-pub gate-cong : (rows : List Row) (f g : ℕ → Bool) (i : ℕ) → ((j : ℕ) → Among j (operands-of (row_at rows i)) → f j ≡ g j) → gate_of rows f i ≡ gate_of rows g i
-gate-cong rows f g i h = ap (λ (t : Bool). is_gate (row_at rows i) && t) (all-cong f g (operands-of (row_at rows i)) h)
+pub gate-cong : (rows : List Row) (f g : ℕ → Bool) (i : ℕ) → ((j : ℕ) → Among j (operands_of (row_at rows i)) → f j ≡ g j) → gate_of rows f i ≡ gate_of rows g i
+gate-cong rows f g i h = ap (λ (t : Bool). is_gate (row_at rows i) && t) (all-cong f g (operands_of (row_at rows i)) h)
 
 -- Operand number k of row x has a slot.
-pub operand-slot : (layout : Layout) (f : List ℕ) (n : ℕ) → Source layout f n → (x : ℕ) → x < n → (w : List ℕ) (count k j : ℕ) → 2 * n ≤ length w → count ≡ length (operands-of (row_at (source_rows layout f) x)) → k < count → j ≡ get_or (operands-of (row_at (source_rows layout f) x)) k 0 → 2 * j + 2 ≤ length w
+pub operand-slot : (layout : Layout) (f : List ℕ) (n : ℕ) → Source layout f n → (x : ℕ) → x < n → (w : List ℕ) (count k j : ℕ) → 2 * n ≤ length w → count ≡ length (operands_of (row_at (source_rows layout f) x)) → k < count → j ≡ get_or (operands_of (row_at (source_rows layout f) x)) k 0 → 2 * j + 2 ≤ length w
 operand-slot layout f n F x h w count k j room m l e = omega (arith, operand_row (source_rows layout f) F.rows x k (row_inside layout f n F x h) (omega arith), F.count, e)
 
 -- ---- all of them placed
 
 module _ (rows : List Row) (w : List ℕ) (x : ℕ) where
   abbrev named : List ℕ
-  named = operands-of (row_at rows x)
+  named = operands_of (row_at rows x)
 
   -- The first k operands are placed.
   abbrev pub PlacedTo : ℕ → Type 0

@@ -6,7 +6,7 @@ use Rattle.memory.specs.Lists.{all_of}
 use Rattle.memory.specs.Slots.{slot_at, set_slot}
 use Rattle.netlist.specs.Rows.{Row, row_at, kind_of}
 use Rattle.questions.specs.Questions.{no_refusal}
-use Rattle.ordering.specs.GateOrder.{is_gate, is_source, operands-of, is_in, gate_order, rows_that, new_number, sorted_order}
+use Rattle.ordering.specs.GateOrder.{is_gate, is_source, operands_of, is_in, gate_order, rows_that, new_number, sorted_order}
 use Rattle.ordering.specs.SortQuestions.{loop_refusal}
 use Rattle.ready_gates.specs.ReadySlots.{ready_slot, ReadyMarked}
 use Rattle.gate_users.specs.Users.{uses}
@@ -43,7 +43,7 @@ is_placed_in w i = leb placed_slot (slot_at w i)
 
 -- Row i is a gate, and the test holds of all nodes that it names.
 abbrev pub gate_of : List Row → (ℕ → Bool) → ℕ → Bool
-gate_of rows f i = is_gate (row_at rows i) && all_of f (operands-of (row_at rows i))
+gate_of rows f i = is_gate (row_at rows i) && all_of f (operands_of (row_at rows i))
 
 -- Row i names the node.
 abbrev pub users_of : List Row → ℕ → ℕ → Bool

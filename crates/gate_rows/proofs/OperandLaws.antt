@@ -8,7 +8,7 @@ use lib.ListN.{length, get_or}
 use Rattle.memory.specs.Fields.{u16_at}
 use Rattle.netlist.specs.Rows.{Row, RowFields, constant, input, register, and_gate, xor_gate, mux_gate, output, encode_row, row_from_fields, row_at, kind_of}
 use Rattle.netlist.specs.FileFormat.{row_offset, read_fields}
-use Rattle.ordering.specs.GateOrder.{operands-of}
+use Rattle.ordering.specs.GateOrder.{operands_of}
 use Rattle.gate_rows.specs.Sources.{pair_kind, operand_offset, source_rows, Source}
 use Rattle.gate_rows.specs.declared.Pairs.{Pairs}
 use Rattle.gate_rows.specs.declared.Layout.{Layout}
@@ -20,9 +20,9 @@ use Rattle.gate_rows.proofs.SourceLaws.{file-inside, file-fields, pair_is, pair-
 
 -- How many operands a row of kind k has.
 abbrev operand_count : ℕ → ℕ
-operand_count k = length (operands-of (row_from_fields k 0 0 0 0))
+operand_count k = length (operands_of (row_from_fields k 0 0 0 0))
 
-count-is : (r : Row) → operand_count (kind_of r) ≡ length (operands-of r)
+count-is : (r : Row) → operand_count (kind_of r) ≡ length (operands_of r)
 count-is constant = refl
 count-is (input _ _) = refl
 count-is (register _ _ _) = refl
@@ -32,10 +32,10 @@ count-is (mux_gate _ _ _) = refl
 count-is (output _ _ _) = refl
 
 -- A row of kind m.
-pub operands-of : (m : ℕ) (r : Row) (k : ℕ) → k ≡ kind_of r → k ≡ m → operand_count m ≡ length (operands-of r)
+pub operands-of : (m : ℕ) (r : Row) (k : ℕ) → k ≡ kind_of r → k ≡ m → operand_count m ≡ length (operands_of r)
 operands-of m r k e q = ap operand_count (sym q ∙ e) ∙ count-is r
 
-pub no-operands : (r : Row) (k : ℕ) → k ≡ kind_of r → (k ≡ 3 → ⊥) → (k ≡ 4 → ⊥) → (k ≡ 5 → ⊥) → 0 ≡ length (operands-of r)
+pub no-operands : (r : Row) (k : ℕ) → k ≡ kind_of r → (k ≡ 3 → ⊥) → (k ≡ 4 → ⊥) → (k ≡ 5 → ⊥) → 0 ≡ length (operands_of r)
 no-operands constant k e x y z = refl
 no-operands (input _ _) k e x y z = refl
 no-operands (register _ _ _) k e x y z = refl
@@ -54,7 +54,7 @@ abbrev field_of : RowFields → ℕ → ℕ
 field_of w i = get_or (w.a ∷ w.b ∷ w.c ∷ []) i 0
 
 -- The operands are the first fields.
-operand-field : (r : Row) (i : ℕ) → i < length (operands-of r) → get_or (operands-of r) i 0 ≡ field_of (encode_row r) i / 2
+operand-field : (r : Row) (i : ℕ) → i < length (operands_of r) → get_or (operands_of r) i 0 ≡ field_of (encode_row r) i / 2
 operand-field constant i l = absurd (omega arith)
 operand-field (input _ _) i l = absurd (omega arith)
 operand-field (register _ _ _) i l = absurd (omega arith)
@@ -76,9 +76,9 @@ field_at s row (suc zero) l = ap (u16_at s) (omega arith)
 field_at s row (suc (suc zero)) l = ap (u16_at s) (omega arith)
 field_at s row (suc (suc (suc i))) l = absurd (omega arith)
 
-module _ (l : Layout) (s : List ℕ) (row : ℕ) (S : Source l s (length (source_rows l s))) (h : row < length (source_rows l s)) (i : ℕ) (few : i < 3) (k : i < length (operands-of (row_at (source_rows l s) row))) where
+module _ (l : Layout) (s : List ℕ) (row : ℕ) (S : Source l s (length (source_rows l s))) (h : row < length (source_rows l s)) (i : ℕ) (few : i < 3) (k : i < length (operands_of (row_at (source_rows l s) row))) where
   abbrev operand : ℕ
-  operand = get_or (operands-of (row_at (source_rows l s) row)) i 0
+  operand = get_or (operands_of (row_at (source_rows l s) row)) i 0
 
   -- It stands in the source, and is read there.
   reads : (x : Layout) → l ≡ x → (operand_offset x row i + 2 ≤ length s) × (u16_at s (operand_offset x row i) / 2 ≡ operand)
@@ -88,14 +88,14 @@ module _ (l : Layout) (s : List ℕ) (row : ℕ) (S : Source l s (length (source
   )
   reads (layout.Pairs c) e =
       let p = pair_is l s row S h c e in
-      let q = pair-operand c s row i (subst (λ (r : Row). i < length (operands-of r)) p k) in
-      (omega (arith, (pair-stands l s row S h c e).room, q.0), sym (ap (λ (r : Row). get_or (operands-of r) i 0) p ∙ q.1))
+      let q = pair-operand c s row i (subst (λ (r : Row). i < length (operands_of r)) p k) in
+      (omega (arith, (pair-stands l s row S h c e).room, q.0), sym (ap (λ (r : Row). get_or (operands_of r) i 0) p ∙ q.1))
 
   module _ (at : ℕ) (p : at ≡ operand_offset l row i) where
     pub operand-inside : at + 2 ≤ length s
     operand-inside = omega (arith, p, (reads l refl).0)
 
-    pub operand-is : (v : ℕ) → v ≡ u16_at s at → v / 2 ≡ get_or (operands-of (row_at (source_rows l s) row)) i 0
+    pub operand-is : (v : ℕ) → v ≡ u16_at s at → v / 2 ≡ get_or (operands_of (row_at (source_rows l s) row)) i 0
     operand-is v q = ap (λ (x : ℕ). x / 2) (q ∙ ap (u16_at s) p) ∙ (reads l refl).1
 
 pub half-small : (v : ℕ) → v < 2 ^ 16 → v / 2 < 2 ^ 15

@@ -11,9 +11,9 @@ use borrow.Author.Tests.{eqb-true, eqb-false, leb-true, leb-false}
 use Rattle.memory.specs.Fields.{u16_at}
 use Rattle.netlist.specs.Rows.{Row, constant, input, register, and_gate, output, encode_row, kind_of}
 use Rattle.netlist.specs.WellFormed.{ResetIn}
-use Rattle.ordering.specs.GateOrder.{operands-of}
+use Rattle.ordering.specs.GateOrder.{operands_of}
 use Rattle.blockfile.specs.RowCode.{fields_in}
-use Rattle.gate_rows.specs.Sources.{pair-row, pair_kind, PairStands}
+use Rattle.gate_rows.specs.Sources.{pair_row, pair_kind, PairStands}
 use Rattle.gate_rows.specs.declared.Pairs.{Pairs}
 
 -- The same test chooses a kind and a row.
@@ -42,7 +42,7 @@ module _ (c : Pairs) (s : List ℕ) (r : ℕ) where
       → (c.inputs < r → r ≤ c.inputs + c.registers → P 2 (register b a (r - 1 - c.inputs)))
       → (c.inputs + c.registers < r → r ≤ c.inputs + c.registers + c.gates → P 3 (and_gate a b))
       → (c.inputs + c.registers + c.gates < r → P 6 (output a (r - 1 - c.inputs - c.registers - c.gates) 0))
-      → P (pair_kind c r) (pair-row c s r)
+      → P (pair_kind c r) (pair_row c s r)
   pair-cases P zero_row inputs registers gates outputs =
       by-test P (eqb r 0) _ _ _ _ (λ e. zero_row (eqb-true r 0 e)) (λ z.
       by-test P (leb r c.inputs) _ _ _ _ (λ e. inputs (let d = eqb-false r 0 z in omega (arith, d)) (leb-true r c.inputs e)) (λ i.
@@ -50,12 +50,12 @@ module _ (c : Pairs) (s : List ℕ) (r : ℕ) where
       by-test P (leb r (c.inputs + c.registers + c.gates)) _ _ _ _ (λ e. gates (leb-false r (c.inputs + c.registers) g) (leb-true r (c.inputs + c.registers + c.gates) e))
       (λ o. outputs (leb-false r (c.inputs + c.registers + c.gates) o)))))
 
-  pub kind-of-pair : kind_of (pair-row c s r) ≡ pair_kind c r
+  pub kind-of-pair : kind_of (pair_row c s r) ≡ pair_kind c r
   kind-of-pair = pair-cases (λ k x. kind_of x ≡ k) (λ _. refl) (λ _ _. refl) (λ _ _. refl) (λ _ _. refl) (λ _. refl)
 
   -- An operand is a number of the pair.
-  pub pair-operand : (i : ℕ) → i < length (operands-of (pair-row c s r)) → (i < 2) × (get_or (operands-of (pair-row c s r)) i 0 ≡ u16_at s (4 * r + 2 * i) / 2)
-  pair-operand i = pair-cases (λ _ x. i < length (operands-of x) → (i < 2) × (get_or (operands-of x) i 0 ≡ u16_at s (4 * r + 2 * i) / 2))
+  pub pair-operand : (i : ℕ) → i < length (operands_of (pair_row c s r)) → (i < 2) × (get_or (operands_of (pair_row c s r)) i 0 ≡ u16_at s (4 * r + 2 * i) / 2)
+  pair-operand i = pair-cases (λ _ x. i < length (operands_of x) → (i < 2) × (get_or (operands_of x) i 0 ≡ u16_at s (4 * r + 2 * i) / 2))
       (λ _ l. absurd (omega arith)) (λ _ _ l. absurd (omega arith)) (λ _ _ l. absurd (omega arith)) (λ _ _. number i) (λ _ l. absurd (omega arith))
     where
       number : (j : ℕ) → j < 2 → (j < 2) × (get_or (a / 2 ∷ b / 2 ∷ []) j 0 ≡ u16_at s (4 * r + 2 * j) / 2)
@@ -80,14 +80,14 @@ module _ (c : Pairs) (s : List ℕ) (r : ℕ) where
   first_of (suc (suc (suc zero))) = 1 + c.inputs + c.registers
   first_of (suc (suc (suc (suc m)))) = 1 + c.inputs + c.registers + c.gates
 
-  pair-of-kind : pair-row c s r ≡ of_kind (pair_kind c r)
+  pair-of-kind : pair_row c s r ≡ of_kind (pair_kind c r)
   pair-of-kind = pair-cases (λ k x. x ≡ of_kind k) (λ _. refl) (λ _ _. refl) (λ _ _. refl) (λ _ _. refl) (λ _. refl)
 
   pair-begins : first_of (pair_kind c r) ≤ r
   pair-begins = pair-cases (λ k _. first_of k ≤ r) (λ e. omega arith) (λ h _. omega arith) (λ h _. omega arith) (λ h _. omega arith) (λ h. omega arith)
 
   module _ (k : ℕ) (q : k ≡ pair_kind c r) (S : PairStands c s r) where
-    row_is : (m : ℕ) → k ≡ m → pair-row c s r ≡ of_kind m
+    row_is : (m : ℕ) → k ≡ m → pair_row c s r ≡ of_kind m
     row_is m e = pair-of-kind ∙ ap of_kind (sym q ∙ e)
 
     begins : (m : ℕ) → k ≡ m → first_of m ≤ r
@@ -96,13 +96,13 @@ module _ (c : Pairs) (s : List ℕ) (r : ℕ) where
     pub label_small : (x : ℕ) → r - x < 2 ^ 16
     label_small x = omega (arith, S.few, S.inside)
 
-    pub constant-fields : k ≡ 0 → fields_in (record { kind = 0; reset = 0; a = 0; b = 0; c = 0 }) ≡ encode_row (pair-row c s r)
+    pub constant-fields : k ≡ 0 → fields_in (record { kind = 0; reset = 0; a = 0; b = 0; c = 0 }) ≡ encode_row (pair_row c s r)
     constant-fields e = sym (ap encode_row (row_is 0 e))
 
     pub input-label : k ≡ 1 → 1 ≤ r
     input-label e = begins 1 e
 
-    pub input-fields : k ≡ 1 → fields_in (record { kind = 1; reset = 0; a = r - 1; b = 0; c = 0 }) ≡ encode_row (pair-row c s r)
+    pub input-fields : k ≡ 1 → fields_in (record { kind = 1; reset = 0; a = r - 1; b = 0; c = 0 }) ≡ encode_row (pair_row c s r)
     input-fields e = sym (ap encode_row (row_is 1 e))
 
     pub register-reset : k ≡ 2 → (second : ℕ) → second ≡ u16_at s (4 * r + 2) → second < 2 ^ 8
@@ -113,12 +113,12 @@ module _ (c : Pairs) (s : List ℕ) (r : ℕ) where
         pub register-label : start ≤ r
         register-label = omega (arith, p, begins 2 e)
 
-        pub register-fields : fields_in (record { kind = 2; reset = second; a = first; b = r - start; c = 0 }) ≡ encode_row (pair-row c s r)
+        pub register-fields : fields_in (record { kind = 2; reset = second; a = first; b = r - start; c = 0 }) ≡ encode_row (pair_row c s r)
         register-fields =
             let label : r - start ≡ r - 1 - c.inputs = omega (arith, p) in
             rw (row_is 2 e, x, y, label)
 
-      pub gate-fields : k ≡ 3 → fields_in (record { kind = 3; reset = 0; a = first; b = second; c = 0 }) ≡ encode_row (pair-row c s r)
+      pub gate-fields : k ≡ 3 → fields_in (record { kind = 3; reset = 0; a = first; b = second; c = 0 }) ≡ encode_row (pair_row c s r)
       gate-fields e = rw (row_is 3 e, x, y)
 
       module _ (not-constant : ¬ (k ≡ 0)) (not-input : ¬ (k ≡ 1)) (not_register : ¬ (k ≡ 2)) (not-gate : ¬ (k ≡ 3)) (start : ℕ) (p : start ≡ 1 + c.inputs + c.registers + c.gates) where
@@ -128,7 +128,7 @@ module _ (c : Pairs) (s : List ℕ) (r : ℕ) where
         pub output-label : start ≤ r
         output-label = omega (arith, p, begins _ last-kind.1)
 
-        pub output-fields : fields_in (record { kind = 6; reset = 0; a = first; b = r - start; c = 0 }) ≡ encode_row (pair-row c s r)
+        pub output-fields : fields_in (record { kind = 6; reset = 0; a = first; b = r - start; c = 0 }) ≡ encode_row (pair_row c s r)
         output-fields =
             let label : r - start ≡ r - 1 - c.inputs - c.registers - c.gates = omega (arith, p) in
             rw (row_is _ last-kind.1, x, label)

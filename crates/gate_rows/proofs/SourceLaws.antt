@@ -16,7 +16,7 @@ use Rattle.questions.specs.Questions.{no_refusal, names_anywhere, unordered_refu
 use Rattle.questions.proofs.QuestionLaws.{number-none}
 use Rattle.questions.proofs.AcceptedFiles.{file-right, file-rows, rows-fields}
 use Rattle.blockfile.specs.Ready.{Ready}
-use Rattle.gate_rows.specs.Sources.{pair_count, pair-row, pair_rows, source_rows, FileStands, Stands, PairStands, Source}
+use Rattle.gate_rows.specs.Sources.{pair_count, pair_row, pair_rows, source_rows, FileStands, Stands, PairStands, Source}
 use Rattle.gate_rows.specs.declared.Pairs.{Pairs}
 use Rattle.gate_rows.specs.declared.Layout.{Layout}
 use Rattle.gate_rows.specs.declared.Layout.TheVariants as layout
@@ -32,10 +32,10 @@ unfolding source_rows
 pairs-are c s = refl
 
 pub pair-rows-length : (c : Pairs) (s : List ℕ) → length (pair_rows c s) ≡ pair_count c
-pair-rows-length c s = tabulate-length (pair_count c) (pair-row c s)
+pair-rows-length c s = tabulate-length (pair_count c) (pair_row c s)
 
-pub pair-row-at : (c : Pairs) (s : List ℕ) (r : ℕ) → r < pair_count c → row_at (pair_rows c s) r ≡ pair-row c s r
-pair-row-at c s r h = tabulate-at (pair_count c) (pair-row c s) r constant h
+pub pair-row-at : (c : Pairs) (s : List ℕ) (r : ℕ) → r < pair_count c → row_at (pair_rows c s) r ≡ pair_row c s r
+pair-row-at c s r h = tabulate-at (pair_count c) (pair_row c s) r constant h
 
 -- ---- sources
 
@@ -99,10 +99,10 @@ module _ (l : Layout) (s : List ℕ) (row : ℕ) (S : Source l s (length (source
     pub pairs-few : pair_count c ≤ most_rows
     pairs-few = omega (arith, S.few, ap length as-pairs, pair-rows-length c s)
 
-    pub pair_is : row_at (source_rows l s) row ≡ pair-row c s row
+    pub pair_is : row_at (source_rows l s) row ≡ pair_row c s row
     pair_is = ap (λ (rows : List Row). row_at rows row) as-pairs ∙ pair-row-at c s row pair_inside
 
-    pub pair-row : (w : RowFields) → w ≡ encode_row (pair-row c s row) → w ≡ encode_row (row_at (source_rows l s) row)
+    pub pair-row : (w : RowFields) → w ≡ encode_row (pair_row c s row) → w ≡ encode_row (row_at (source_rows l s) row)
     pair-row w q = q ∙ sym (ap encode_row pair_is)
 
     pair-room : 4 * pair_count c ≤ length s

@@ -1,5 +1,5 @@
 -- Rows that are sorted, and how they stand in bytes: as a netlist file, or as pairs of numbers.
--- Interface: pair_count, pair-row, pair_rows, source_rows, Source.
+-- Interface: pair_count, pair_row, pair_rows, source_rows, Source.
 -- Assumes nothing.
 use Rattle.std.specs.Prelude.{ℕ, ◌+◌, ◌-◌, ◌*◌, ◌<◌, ◌≤◌, ◌≡◌, cond, List, length, eqb, leb}
 use Rattle.memory.specs.Lists.{tabulate}
@@ -17,8 +17,8 @@ abbrev pub pair_count : Pairs → ℕ
 pair_count c = 1 + c.inputs + c.registers + c.gates + c.outputs
 
 -- Row r: its pair is two numbers of 16 bits, at 4 * r. A register's pair is its next value and its reset, a gate's its operands, an output's its literal and nothing; labels are positions.
-abbrev pub pair-row : Pairs → List ℕ → ℕ → Row
-pair-row c s r =
+abbrev pub pair_row : Pairs → List ℕ → ℕ → Row
+pair_row c s r =
     let a = u16_at s (4 * r) in
     let b = u16_at s (4 * r + 2) in
     cond (eqb r 0) constant
@@ -31,7 +31,7 @@ abbrev pub pair_kind : Pairs → ℕ → ℕ
 pair_kind c r = cond (eqb r 0) 0 (cond (leb r c.inputs) 1 (cond (leb r (c.inputs + c.registers)) 2 (cond (leb r (c.inputs + c.registers + c.gates)) 3 6)))
 
 abbrev pub pair_rows : Pairs → List ℕ → List Row
-pair_rows c s = tabulate (pair_count c) (pair-row c s)
+pair_rows c s = tabulate (pair_count c) (pair_row c s)
 
 -- The rows that stand in s.
 unfoldable pub source_rows : Layout → List ℕ → List Row
@@ -58,7 +58,7 @@ pub record PairStands (c : Pairs) (s : List ℕ) (r : ℕ) : Type 0 where
   pub few : pair_count c ≤ most_rows
   pub inside : r < pair_count c
   pub room : 4 * r + 4 ≤ length s
-  pub reset : ResetIn (pair-row c s r)
+  pub reset : ResetIn (pair_row c s r)
 
 -- n rows stand in s: what the sorter asks of its source.
 pub record Source (layout : Layout) (s : List ℕ) (n : ℕ) : Type 0 where

@@ -18,7 +18,7 @@ use Rattle.memory.proofs.FieldLaws.{zeros-at}
 use Rattle.memory.proofs.FrameLaws.{kept-none, kept-join, kept_sets, u16-kept, u16-back}
 use Rattle.memory.proofs.SlotLaws.{slot_same, slot-other}
 use Rattle.netlist.specs.Rows.{Row, constant, input, register, and_gate, xor_gate, mux_gate, output, row_at}
-use Rattle.ordering.specs.GateOrder.{is_in, operands-of}
+use Rattle.ordering.specs.GateOrder.{is_in, operands_of}
 use Rattle.ordering.proofs.PlacingLaws.{in_is, at_of}
 use Rattle.gate_rows.specs.Sources.{source_rows, Source}
 use Rattle.gate_rows.specs.declared.Layout.{Layout}
@@ -28,7 +28,7 @@ use Rattle.gate_users.proofs.UserLaws.{last_more}
 
 -- ---- operands
 
-operands-few : (r : Row) → length (operands-of r) ≤ 3
+operands-few : (r : Row) → length (operands_of r) ≤ 3
 operands-few constant = omega arith
 operands-few (input _ _) = omega arith
 operands-few (register _ _ _) = omega arith
@@ -50,7 +50,7 @@ keep-more :
     → 8 * length rows ≤ length u
     → HeadsKept rows x m u u'
     → node < length rows
-    → node ≡ get_or (operands-of (row_at rows x)) m 0
+    → node ≡ get_or (operands_of (row_at rows x)) m 0
     → v ≡ slot_at u' node
     → v < 2 ^ 16
     → HeadsKept rows x (m + 1) u (sets u' (2 * length rows + 6 * x + 2 * m) (u16_bytes v))
@@ -122,17 +122,17 @@ module _ (layout : Layout) (f : List ℕ) (n : ℕ) (F : Source layout f n) wher
   room-all u u' h e = omega (arith, F.count)
 
   -- Row x, which has `count` operands.
-  module _ (x : ℕ) (h : x < n) (count : ℕ) (c : count ≡ length (operands-of (row_at (source_rows layout f) x))) where
+  module _ (x : ℕ) (h : x < n) (count : ℕ) (c : count ≡ length (operands_of (row_at (source_rows layout f) x))) where
     abbrev operands : List ℕ
-    operands = operands-of (row_at rows x)
+    operands = operands_of (row_at rows x)
 
-    pub index_in : (k : ℕ) → k < count → k < length (operands-of (row_at (source_rows layout f) x))
+    pub index_in : (k : ℕ) → k < count → k < length (operands_of (row_at (source_rows layout f) x))
     index_in k l = omega arith
 
     node-below : (k node : ℕ) → k < count → node ≡ get_or operands k 0 → node < length rows
     node-below k node l e = omega (arith, e, operand_row rows F.rows x k (row_inside layout f n F x h) (index_in k l))
 
-    pub node-room : (k node : ℕ) (u u' : List ℕ) → k < count → node ≡ get_or (operands-of (row_at (source_rows layout f) x)) k 0 → 8 * n ≤ length u → length u' ≡ length u → 2 * node + 2 ≤ length u'
+    pub node-room : (k node : ℕ) (u u' : List ℕ) → k < count → node ≡ get_or (operands_of (row_at (source_rows layout f) x)) k 0 → 8 * n ≤ length u → length u' ≡ length u → 2 * node + 2 ≤ length u'
     node-room k node u u' l e room long = omega (arith, node-below k node l e, F.count)
 
     few : count ≤ 3
@@ -143,7 +143,7 @@ module _ (layout : Layout) (f : List ℕ) (n : ℕ) (F : Source layout f n) wher
         → 8 * n ≤ length u
         → k < count
         → HeadsKept (source_rows layout f) x k u u'
-        → node ≡ get_or (operands-of (row_at (source_rows layout f) x)) k 0
+        → node ≡ get_or (operands_of (row_at (source_rows layout f) x)) k 0
         → v ≡ slot_at u' node
         → v < 2 ^ 16
         → o ≡ 2 * n + 6 * x + 2 * k
@@ -154,23 +154,23 @@ module _ (layout : Layout) (f : List ℕ) (n : ℕ) (F : Source layout f n) wher
         rw (w, at) (keep-more rows x k u u' node v (row_inside layout f n F x h) (omega (arith, few)) (omega (arith, F.count)) H (node-below k node l p) p e small)
 
     -- Every operand has its entry.
-    pub keep-end : (u u' : List ℕ) (k : ℕ) → HeadsKept (source_rows layout f) x k u u' → count ≤ k → HeadsKept (source_rows layout f) x (length (operands-of (row_at (source_rows layout f) x))) u u'
+    pub keep-end : (u u' : List ℕ) (k : ℕ) → HeadsKept (source_rows layout f) x k u u' → count ≤ k → HeadsKept (source_rows layout f) x (length (operands_of (row_at (source_rows layout f) x))) u u'
     keep-end u u' k H l = record { entries = λ i b. H.entries i (omega arith); others = H.others }
 
     pub set_next :
         (u u' u'' : List ℕ) (k node : ℕ)
         → 8 * n ≤ length u
         → k < count
-        → HeadsSet (source_rows layout f) x (take k (operands-of (row_at (source_rows layout f) x))) u u'
-        → node ≡ get_or (operands-of (row_at (source_rows layout f) x)) k 0
+        → HeadsSet (source_rows layout f) x (take k (operands_of (row_at (source_rows layout f) x))) u u'
+        → node ≡ get_or (operands_of (row_at (source_rows layout f) x)) k 0
         → u'' ≡ set_slot u' node x
-        → HeadsSet (source_rows layout f) x (take (k + 1) (operands-of (row_at (source_rows layout f) x))) u u''
+        → HeadsSet (source_rows layout f) x (take (k + 1) (operands_of (row_at (source_rows layout f) x))) u u''
     set_next u u' u'' k node room l H p w =
         rw (w, add-one k, take-suc operands k 0 (index_in k l), ← p)
         (set_last rows x (take k operands) u u' node (omega (arith, F.few)) (omega (arith, F.count)) H (node-below k node l p))
 
     -- The row is the head of each list.
-    pub set-end : (u u' : List ℕ) (k : ℕ) → HeadsSet (source_rows layout f) x (take k (operands-of (row_at (source_rows layout f) x))) u u' → k ≤ count → count ≤ k → HeadsSet (source_rows layout f) x (operands-of (row_at (source_rows layout f) x)) u u'
+    pub set-end : (u u' : List ℕ) (k : ℕ) → HeadsSet (source_rows layout f) x (take k (operands_of (row_at (source_rows layout f) x))) u u' → k ≤ count → count ≤ k → HeadsSet (source_rows layout f) x (operands_of (row_at (source_rows layout f) x)) u u'
     set-end u u' k H a b =
         let e : k ≡ length operands = omega arith in
         subst (λ (ys : List ℕ). HeadsSet rows x ys u u') (ap (λ (i : ℕ). take i operands) e ∙ take-length operands) H
@@ -208,8 +208,8 @@ module _ (n : ℕ) (u : List ℕ) (room : 8 * n ≤ length u) where
 
 -- One row more: the heads that it finds become its entries, then it becomes the head.
 module _ (layout : Layout) (f : List ℕ) (n m : ℕ) (u v w : List ℕ)
-    (S : HeadsSet (source_rows layout f) m (operands-of (row_at (source_rows layout f) m)) v w)
-    (H : HeadsKept (source_rows layout f) m (length (operands-of (row_at (source_rows layout f) m))) u v)
+    (S : HeadsSet (source_rows layout f) m (operands_of (row_at (source_rows layout f) m)) v w)
+    (H : HeadsKept (source_rows layout f) m (length (operands_of (row_at (source_rows layout f) m))) u v)
     (L : Listed (source_rows layout f) u m)
     (F : Source layout f n)
     (h : m < n) where
@@ -222,15 +222,15 @@ module _ (layout : Layout) (f : List ℕ) (n m : ℕ) (u v w : List ℕ)
   entry-stays : (x k : ℕ) → u16_at w (2 * length listed + 6 * x + 2 * k) ≡ u16_at v (2 * length listed + 6 * x + 2 * k)
   entry-stays x k = u16-kept S.others (2 * length listed + 6 * x + 2 * k) (λ y a b c d. omega arith)
 
-  earlier : (x k : ℕ) → x < m → k < length (operands-of (row_at listed x)) → u16_at w (2 * length listed + 6 * x + 2 * k) ≡ last_user listed (get_or (operands-of (row_at listed x)) k 0) x
+  earlier : (x k : ℕ) → x < m → k < length (operands_of (row_at listed x)) → u16_at w (2 * length listed + 6 * x + 2 * k) ≡ last_user listed (get_or (operands_of (row_at listed x)) k 0) x
   earlier x k l b =
       entry-stays x k ∙ u16-kept H.others (2 * length listed + 6 * x + 2 * k) (λ z a t c d. omega (arith, operands-few (row_at listed x)))
       ∙ L.entries x k l b
 
-  own : (k : ℕ) → k < length (operands-of (row_at listed m)) → u16_at w (2 * length listed + 6 * m + 2 * k) ≡ last_user listed (get_or (operands-of (row_at listed m)) k 0) m
+  own : (k : ℕ) → k < length (operands_of (row_at listed m)) → u16_at w (2 * length listed + 6 * m + 2 * k) ≡ last_user listed (get_or (operands_of (row_at listed m)) k 0) m
   own k b =
       entry-stays m k ∙ H.entries k b
-      ∙ L.heads (get_or (operands-of (row_at listed m)) k 0) (operand_row listed F.rows m k (row_inside layout f n F m h) b)
+      ∙ L.heads (get_or (operands_of (row_at listed m)) k 0) (operand_row listed F.rows m k (row_inside layout f n F m h) b)
 
   pub listed_more : Listed (source_rows layout f) w (m + 1)
   listed_more = record {
@@ -257,14 +257,14 @@ module _ (layout : Layout) (f : List ℕ) (n : ℕ) (F : Source layout f n) (u :
   pub head-is : (y r : ℕ) → y < n → r ≡ slot_at u y → r ≡ last_user (source_rows layout f) y n
   head-is y r h e = e ∙ L.heads y (row_inside layout f n F y h)
 
-  module _ (x : ℕ) (h : x < n) (count : ℕ) (c : count ≡ length (operands-of (row_at (source_rows layout f) x))) (k : ℕ) (node : ℕ) where
-    pub entry-is : (other o r : ℕ) → k < count → other ≡ get_or (operands-of (row_at (source_rows layout f) x)) k 0 → other ≡ node → o ≡ 2 * n + 6 * x + 2 * k → r ≡ u16_at u o → r ≡ last_user (source_rows layout f) node x
+  module _ (x : ℕ) (h : x < n) (count : ℕ) (c : count ≡ length (operands_of (row_at (source_rows layout f) x))) (k : ℕ) (node : ℕ) where
+    pub entry-is : (other o r : ℕ) → k < count → other ≡ get_or (operands_of (row_at (source_rows layout f) x)) k 0 → other ≡ node → o ≡ 2 * n + 6 * x + 2 * k → r ≡ u16_at u o → r ≡ last_user (source_rows layout f) node x
     entry-is other o r l e p q w =
         let at : o ≡ 2 * length (source_rows layout f) + 6 * x + 2 * k = omega (arith, F.count) in
         w ∙ ap (u16_at u) at ∙ L.entries x k h (omega arith) ∙ ap (λ (z : ℕ). last_user (source_rows layout f) z x) (sym e ∙ p)
 
     -- Some operand is the node.
-    pub user-has : (z : ℕ) → NotAmong (operands-of (row_at (source_rows layout f) x)) k node → count ≤ k → uses (source_rows layout f) x node ≡ true → z ≡ last_user (source_rows layout f) node x
+    pub user-has : (z : ℕ) → NotAmong (operands_of (row_at (source_rows layout f) x)) k node → count ≤ k → uses (source_rows layout f) x node ≡ true → z ≡ last_user (source_rows layout f) node x
     user-has z a l e =
-        let i = at_of node (operands-of (row_at (source_rows layout f) x)) (in_is node (operands-of (row_at (source_rows layout f) x)) e) in
+        let i = at_of node (operands_of (row_at (source_rows layout f) x)) (in_is node (operands_of (row_at (source_rows layout f) x)) e) in
         absurd (a i.0 (omega (arith, i.1)) i.2)

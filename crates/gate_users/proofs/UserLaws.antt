@@ -10,7 +10,7 @@ use native.Mathlib.Numerals.{add-one}
 use Rattle.memory.proofs.TestLaws.{cond-case, last_or}
 use Rattle.netlist.specs.Rows.{Row}
 use Rattle.netlist.specs.WellFormed.{UnorderedRows}
-use Rattle.ordering.specs.GateOrder.{is_in, operands-of}
+use Rattle.ordering.specs.GateOrder.{is_in, operands_of}
 use Rattle.gate_users.specs.Users.{uses, last_user}
 
 module _ (rows : List Row) (y : ℕ) where
@@ -48,4 +48,4 @@ module _ (rows : List Row) (y : ℕ) where
 
   module _ (U : UnorderedRows rows) where
     pub constant-uses : uses rows 0 y ≡ false
-    constant-uses = ap (λ (r : Row). is_in y (operands-of r)) U.constant-first
+    constant-uses = ap (λ (r : Row). is_in y (operands_of r)) U.constant-first

@@ -16,7 +16,7 @@ use Rattle.aiger.specs.AigerRows.{aiger_rows}
 use Rattle.aiger.proofs.AigerFacts.{RowPlaces}
 use Rattle.aiger.proofs.NodeLaws.{row-places, each-place}
 use Rattle.aiger.proofs.RowLaws.{aiger-unordered}
-use Rattle.gate_rows.specs.Sources.{pair-row, pair_rows, source_rows, Source}
+use Rattle.gate_rows.specs.Sources.{pair_row, pair_rows, source_rows, Source}
 use Rattle.gate_rows.proofs.SourceLaws.{pairs-are, pair-rows-length, pair-row-at, pairs-source}
 use Rattle.gate_rows.specs.declared.Pairs.{Pairs}
 use Rattle.gate_rows.specs.declared.Layout.TheVariants as layout
@@ -44,25 +44,25 @@ module _ (a : Aiger) (w : List ℕ) (S : PairsStand a w) where
   abbrev R : RowPlaces a
   R = row-places a
 
-  pair_is : (r : ℕ) → r < node_count a.header + O → pair-row c w r ≡ row_at (aiger_rows a) r
+  pair_is : (r : ℕ) → r < node_count a.header + O → pair_row c w r ≡ row_at (aiger_rows a) r
   pair_is =
-      each-place a (λ r. pair-row c w r ≡ row_at (aiger_rows a) r)
+      each-place a (λ r. pair_row c w r ≡ row_at (aiger_rows a) r)
       (sym R.constant-at)
       input-is latch-is gate-is output-is
     where
-      input-is : (j : ℕ) → j < I → pair-row c w (1 + j) ≡ row_at (aiger_rows a) (1 + j)
+      input-is : (j : ℕ) → j < I → pair_row c w (1 + j) ≡ row_at (aiger_rows a) (1 + j)
       input-is j h = let e : 1 + j - 1 ≡ j = omega arith in rw (R.input-at j h, ne_eqb (1 + j) 0 (λ z. omega arith), le-leb (1 + j) I (omega arith), e) refl
 
-      latch-is : (j : ℕ) → j < L → pair-row c w (1 + I + j) ≡ row_at (aiger_rows a) (1 + I + j)
+      latch-is : (j : ℕ) → j < L → pair_row c w (1 + I + j) ≡ row_at (aiger_rows a) (1 + I + j)
       latch-is j h =
           let e : 1 + I + j - 1 - I ≡ j = omega arith in
           rw (R.latch-at j h, S.nexts j h, S.resets j h, ne_eqb (1 + I + j) 0 (λ z. omega arith), lt-leb (1 + I + j) I (omega arith), le-leb (1 + I + j) (I + L) (omega arith), e) refl
 
-      gate-is : (j : ℕ) → j < A → pair-row c w (1 + I + L + j) ≡ row_at (aiger_rows a) (1 + I + L + j)
+      gate-is : (j : ℕ) → j < A → pair_row c w (1 + I + L + j) ≡ row_at (aiger_rows a) (1 + I + L + j)
       gate-is j h =
           rw (R.gate-at j h, S.firsts j h, S.seconds j h, ne_eqb (1 + I + L + j) 0 (λ z. omega arith), lt-leb (1 + I + L + j) I (omega arith), lt-leb (1 + I + L + j) (I + L) (omega arith), le-leb (1 + I + L + j) (I + L + A) (omega arith)) refl
 
-      output-is : (j : ℕ) → j < O → pair-row c w (node_count a.header + j) ≡ row_at (aiger_rows a) (node_count a.header + j)
+      output-is : (j : ℕ) → j < O → pair_row c w (node_count a.header + j) ≡ row_at (aiger_rows a) (node_count a.header + j)
       output-is j h =
           let n = node_count a.header + j in
           let e : n - 1 - I - L - A ≡ j = omega arith in

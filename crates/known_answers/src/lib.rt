@@ -1,1 +1,2 @@
 // Known answers as one checked claim; no code.
+#![tactic(auto)]

@@ -5,11 +5,11 @@ use Rattle.std.specs.Prelude.{ℕ, ◌+◌, ◌<◌, ◌≡◌, List, length}
 use Rattle.memory.specs.Lists.{Among}
 use Rattle.memory.specs.Slots.{slot_at}
 use Rattle.netlist.specs.Rows.{Row, row_at}
-use Rattle.ordering.specs.GateOrder.{operands-of}
+use Rattle.ordering.specs.GateOrder.{operands_of}
 
 -- Row i is a gate, and names row j.
 abbrev pub Names : List Row → ℕ → ℕ → Type 0
-Names rows i j = Among j (operands-of (row_at rows i))
+Names rows i j = Among j (operands_of (row_at rows i))
 
 -- In the first n slots are rows, and each names the next one.
 pub record Chain (rows : List Row) (list : List ℕ) (n : ℕ) : Type 0 where

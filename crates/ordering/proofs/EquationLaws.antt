@@ -48,6 +48,7 @@ EachNode rows [] = Unit {0}
 EachNode rows (x ∷ xs) = ((x < length rows) × (is_output (row_at rows x) ≡ false)) × EachNode rows xs
 
 node_at : (rows : List Row) (js : List ℕ) → EachNode rows js → (x : ℕ) → Among x js → (x < length rows) × (is_output (row_at rows x) ≡ false)
+node_at rows [] e x x4 = elim x4 [ ]
 node_at rows (j ∷ js) e x here = e.0
 node_at rows (j ∷ js) e x (there a) = node_at rows js e.1 x a
 

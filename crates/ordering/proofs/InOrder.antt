@@ -97,6 +97,7 @@ fanin-below j (mux_gate _ _ _) g b = (b.0, (b.1, (b.2, tt)))
 fanin-below j (output _ _ _) g b = absurd (false≢true g)
 
 below_at : (n : ℕ) (js : List ℕ) → EachBelow n js → (x : ℕ) → Among x js → x < n
+below_at n [] e x x4 = elim x4 [ ]
 below_at n (j ∷ js) e x here = e.0
 below_at n (j ∷ js) e x (there a) = below_at n js e.1 x a
 

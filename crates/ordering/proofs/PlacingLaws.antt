@@ -27,6 +27,7 @@ or_right true b h = refl
 or_right false b h = h
 
 pub in-of : (i : ℕ) (js : List ℕ) → Among i js → is_in i js ≡ true
+in-of i [] x' = elim x' [ ]
 in-of i (j ∷ js) here = rw (eq-eqb i i refl)
 in-of i (j ∷ js) (there a) = or_right (eqb i j) (is_in i js) (in-of i js a)
 
@@ -35,6 +36,7 @@ in_is i [] h = absurd (false≢true h)
 in_is i (j ∷ js) h = or_case (eqb i j) (is_in i js) h (λ e. subst (λ (x : ℕ). Among i (x ∷ js)) (eqb-true i j e) here) (λ e. there (in_is i js e))
 
 pub among-left : (i : ℕ) (xs ys : List ℕ) → Among i xs → Among i (xs ++ ys)
+among-left i [] ys x' = elim x' [ ]
 among-left i (x ∷ xs) ys here = here
 among-left i (x ∷ xs) ys (there a) = there (among-left i xs ys a)
 
@@ -45,6 +47,7 @@ among-last i j (x ∷ xs) here = inl here
 among-last i j (x ∷ xs) (there a) = elim (among-last i j xs a) [ inl b ↦ inl (there b) | inr e ↦ inr e ]
 
 pub all-at : (f : ℕ → Bool) (js : List ℕ) → all_of f js ≡ true → (j : ℕ) → Among j js → f j ≡ true
+all-at f [] h i x'' = elim x'' [ ]
 all-at f (j ∷ js) h i here = (and-true (f j) (all_of f js) h).0
 all-at f (j ∷ js) h i (there a) = all-at f js (and-true (f j) (all_of f js) h).1 i a
 
@@ -62,6 +65,7 @@ among-at zero (j ∷ js) h = here
 among-at (suc x) (j ∷ js) h = there (among-at x js (omega arith))
 
 pub at_of : (i : ℕ) (js : List ℕ) → Among i js → (x : ℕ) × (x < length js) × (get_or js x 0 ≡ i)
+at_of i [] x' = elim x' [ ]
 at_of i (j ∷ js) here = (0, omega arith, refl)
 at_of i (j ∷ js) (there a) = let r = at_of i js a in (suc r.0, omega (arith, r.1), r.2)
 

@@ -14,8 +14,8 @@ abbrev pub is_source : Row → Bool
 is_source r = ltb (kind_of r) 3
 
 -- The nodes that a gate names; none if the row is no gate.
-abbrev pub operands-of : Row → List ℕ
-operands-of r = cond (is_gate r) (fanin_nodes r) []
+abbrev pub operands_of : Row → List ℕ
+operands_of r = cond (is_gate r) (fanin_nodes r) []
 
 -- i is in the list.
 abbrev pub is_in : ℕ → List ℕ → Bool

@@ -1,1 +1,2 @@
 // Definitions, laws and theorems alone; no code.
+#![tactic(auto)]

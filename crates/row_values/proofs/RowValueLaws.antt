@@ -15,7 +15,7 @@ use Rattle.netlist.specs.WellFormed.{OperandsBelow, NextBelow}
 use Rattle.blockfile.specs.RowCode.{if_known}
 use Rattle.blockfile.proofs.RowCodeLaws.{kind-unknown}
 use Rattle.blockfile.proofs.CountLaws.{SortsBy, sorts-by}
-use Rattle.row_values.specs.Values.{IsBinary, bit, truth_at, bit_from, bit-byte, no_value, held_in, RowToRun}
+use Rattle.row_values.specs.Values.{IsBinary, bit, truth_at, bit_from, bit_byte, no_value, held_in, RowToRun}
 use Rattle.row_values.specs.declared.Step.{Step}
 use Rattle.row_values.proofs.BitLaws.{byte-bit, bit-byte}
 
@@ -86,11 +86,11 @@ module _ (f : List ℕ) (i : ℕ) (R : RowToRun f i) (p : ℕ) (ep : p ≡ row_o
 
   module _ (h : Bool) (u : ℕ → ℕ → Bool) (w : ℕ → Bool) where
     abbrev Value : ℕ → Type 0
-    Value x = x ≡ if_known k (bit-byte (row_value bool_logic h u w row)) no_value
+    Value x = x ≡ if_known k (bit_byte (row_value bool_logic h u w row)) no_value
 
     -- The byte x is the value of literal l.
     abbrev Reads : ℕ → ℕ → Type 0
-    Reads l x = x ≡ bit-byte (literal_value bool_logic w l)
+    Reads l x = x ≡ bit_byte (literal_value bool_logic w l)
 
     bit-read : (l x : ℕ) → Reads l x → bit x ≡ literal_value bool_logic w l
     bit-read l x e = ap bit e ∙ bit-byte (literal_value bool_logic w l)
@@ -98,28 +98,28 @@ module _ (f : List ℕ) (i : ℕ) (R : RowToRun f i) (p : ℕ) (ep : p ≡ row_o
     pub value-constant : k ≡ 0 → Value 0
     value-constant e = rw (row_read, e)
 
-    pub value-and : (x y r : ℕ) → k ≡ 3 → Reads a x → Reads b y → r ≡ bit-byte (bit x && bit y) → Value r
+    pub value-and : (x y r : ℕ) → k ≡ 3 → Reads a x → Reads b y → r ≡ bit_byte (bit x && bit y) → Value r
     value-and x y r e ex ey er = rw (row_read, e) (er ∙ rw (bit-read a x ex, bit-read b y ey))
 
-    pub value-xor : (x y r : ℕ) → k ≡ 4 → Reads a x → Reads b y → r ≡ bit-byte (bool_xor (bit x) (bit y)) → Value r
+    pub value-xor : (x y r : ℕ) → k ≡ 4 → Reads a x → Reads b y → r ≡ bit_byte (bool_xor (bit x) (bit y)) → Value r
     value-xor x y r e ex ey er = rw (row_read, e) (er ∙ rw (bit-read a x ex, bit-read b y ey))
 
-    pub value-mux : (m x y r : ℕ) → k ≡ 5 → Reads a m → Reads b x → Reads c y → r ≡ bit-byte (cond (bit m) (bit x) (bit y)) → Value r
+    pub value-mux : (m x y r : ℕ) → k ≡ 5 → Reads a m → Reads b x → Reads c y → r ≡ bit_byte (cond (bit m) (bit x) (bit y)) → Value r
     value-mux m x y r e em ex ey er = rw (row_read, e) (er ∙ rw (bit-read a m em, bit-read b x ex, bit-read c y ey))
 
     pub value-output : (x : ℕ) → k ≡ 6 → Reads a x → Value x
     value-output x e ex = rw (row_read, e) ex
 
     pub value-unknown : (k ≡ 0 → ⊥) → (k ≡ 1 → ⊥) → (k ≡ 2 → ⊥) → (k ≡ 3 → ⊥) → (k ≡ 4 → ⊥) → (k ≡ 5 → ⊥) → (k ≡ 6 → ⊥) → Value no_value
-    value-unknown = kind-unknown k (bit-byte (row_value bool_logic h u w row)) no_value
+    value-unknown = kind-unknown k (bit_byte (row_value bool_logic h u w row)) no_value
 
   pub input-there : (m j : ℕ) → (k ≡ 1 → j < m) → k ≡ 1 → j < m
   input-there m j there e = there e
 
-  pub value-input : (h : Bool) (w : ℕ → Bool) (inputs : List ℕ) (j : ℕ) → k ≡ 1 → IsBinary inputs → byte_at inputs j ≡ if_known k (bit-byte (row_value bool_logic h (λ l p. truth_at inputs j) w row)) no_value
+  pub value-input : (h : Bool) (w : ℕ → Bool) (inputs : List ℕ) (j : ℕ) → k ≡ 1 → IsBinary inputs → byte_at inputs j ≡ if_known k (bit_byte (row_value bool_logic h (λ l p. truth_at inputs j) w row)) no_value
   value-input h w inputs j e bin = rw (row_read, e) (sym (byte-bit (byte_at inputs j) (bin.each j)))
 
-  pub value-register : (h : Bool) (u : ℕ → ℕ → Bool) (w : ℕ → Bool) (x : ℕ) → k ≡ 2 → x ≡ bit-byte h → x ≡ if_known k (bit-byte (row_value bool_logic h u w row)) no_value
+  pub value-register : (h : Bool) (u : ℕ → ℕ → Bool) (w : ℕ → Bool) (x : ℕ) → k ≡ 2 → x ≡ bit_byte h → x ≡ if_known k (bit_byte (row_value bool_logic h u w row)) no_value
   value-register h u w x e ex = rw (row_read, e) ex
 
 -- ---- what the row holds, and starts as: its bytes read from p on
@@ -134,17 +134,17 @@ module _ (f : List ℕ) (i : ℕ) (R : RowToRun f i) (p : ℕ) (ep : p ≡ row_o
 
     -- What the register holds in the initial step, and after it.
     module _ (w : List ℕ) (t : Step) (x : ℕ) where
-      pub held-initial : t.initial ≡ true → IsBinary w → x ≡ byte_at w (t.previous + i) → x ≡ bit-byte (held_in w t i (row_at (netlist_of f) i))
+      pub held-initial : t.initial ≡ true → IsBinary w → x ≡ byte_at w (t.previous + i) → x ≡ bit_byte (held_in w t i (row_at (netlist_of f) i))
       held-initial et bin ex = rw et (ex ∙ sym (byte-bit (byte_at w (t.previous + i)) (bin.each (t.previous + i))))
 
-      pub held-later : t.initial ≡ false → x ≡ bit-byte (literal_value bool_logic (bit_from w t.previous) (u16_at f (p + 2))) → x ≡ bit-byte (held_in w t i (row_at (netlist_of f) i))
+      pub held-later : t.initial ≡ false → x ≡ bit_byte (literal_value bool_logic (bit_from w t.previous) (u16_at f (p + 2))) → x ≡ bit_byte (held_in w t i (row_at (netlist_of f) i))
       held-later et ex = rw (et, read_at, e) ex
 
     module _ (u : ℕ → Bool) where
-      pub start-zero : byte_at f (p + 1) ≡ 0 → 0 ≡ bit-byte (reset_value bool_logic u (row_at (netlist_of f) i))
+      pub start-zero : byte_at f (p + 1) ≡ 0 → 0 ≡ bit_byte (reset_value bool_logic u (row_at (netlist_of f) i))
       start-zero z = rw (read_at, e, z)
 
-      pub start-one : byte_at f (p + 1) ≡ 1 → 1 ≡ bit-byte (reset_value bool_logic u (row_at (netlist_of f) i))
+      pub start-one : byte_at f (p + 1) ≡ 1 → 1 ≡ bit_byte (reset_value bool_logic u (row_at (netlist_of f) i))
       start-one z = rw (read_at, e, z)
 
     -- A reset that is no 0 and no 1 is unknown.
@@ -155,11 +155,11 @@ module _ (f : List ℕ) (i : ℕ) (R : RowToRun f i) (p : ℕ) (ep : p ≡ row_o
       pub start-choice : (m j : ℕ) → (is_unknown (row_at (netlist_of f) i) ≡ true → j < m) → j < m
       start-choice m j there = there (rw (read_at, e, reset-unknown) refl)
 
-      pub start-unknown : (choices : List ℕ) (j : ℕ) → IsBinary choices → byte_at choices j ≡ bit-byte (reset_value bool_logic (λ l. truth_at choices j) (row_at (netlist_of f) i))
+      pub start-unknown : (choices : List ℕ) (j : ℕ) → IsBinary choices → byte_at choices j ≡ bit_byte (reset_value bool_logic (λ l. truth_at choices j) (row_at (netlist_of f) i))
       start-unknown choices j bin = rw (read_at, e, reset-unknown) (sym (byte-bit (byte_at choices j) (bin.each j)))
 
   module _ (n : byte_at f p ≡ 2 → ⊥) where
-    pub start-other : (u : ℕ → Bool) → 0 ≡ bit-byte (reset_value bool_logic u (row_at (netlist_of f) i))
+    pub start-other : (u : ℕ → Bool) → 0 ≡ bit_byte (reset_value bool_logic u (row_at (netlist_of f) i))
     start-other u = rw (read_at, no_register (byte_at f p) (byte_at f (p + 1)) (u16_at f (p + 2)) (u16_at f (p + 4)) (u16_at f (p + 6)) u n)
 
   sort : SortsBy (byte_at f p) (byte_at f (p + 1)) (row_at (netlist_of f) i)

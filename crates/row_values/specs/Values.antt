@@ -1,5 +1,5 @@
 -- Values in lent memory, a byte 0 or 1 each, and a row's value in a step of Run.
--- Interface: IsBinary, bit, truth_at, bit_from, bit-byte, bit_bytes, no_value, held_in, value_in, RowToRun, RowInStep.
+-- Interface: IsBinary, bit, truth_at, bit_from, bit_byte, bit_bytes, no_value, held_in, value_in, RowToRun, RowInStep.
 -- Assumes nothing.
 use Rattle.std.specs.Prelude.{ℕ, ◌+◌, ◌-◌, ◌<◌, ◌≤◌, ◌≡◌, Bool, cond, not, List, map, eqb, length}
 use Rattle.memory.specs.Fields.{byte_at}
@@ -25,11 +25,11 @@ truth_at s i = bit (byte_at s i)
 abbrev pub bit_from : List ℕ → ℕ → ℕ → Bool
 bit_from s from i = truth_at s (from + i)
 
-abbrev pub bit-byte : Bool → ℕ
-bit-byte b = cond b 1 0
+abbrev pub bit_byte : Bool → ℕ
+bit_byte b = cond b 1 0
 
 abbrev pub bit_bytes : List Bool → List ℕ
-bit_bytes bs = map bit-byte bs
+bit_bytes bs = map bit_byte bs
 
 -- A byte that is no value.
 abbrev pub no_value : ℕ

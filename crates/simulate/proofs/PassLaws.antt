@@ -23,7 +23,7 @@ use Rattle.netlist.specs.WellFormed.{NextBelow, CheckedRows}
 use Rattle.netlist.proofs.RowLaws.{next-wider}
 use Rattle.netlist.proofs.SimulationLaws.{literal-cong, row-cong, values_length}
 use Rattle.blockfile.specs.Ready.{Ready}
-use Rattle.row_values.specs.Values.{IsBinary, bit, truth_at, bit_from, bit-byte, bit_bytes, held_in, value_in, RowToRun}
+use Rattle.row_values.specs.Values.{IsBinary, bit, truth_at, bit_from, bit_byte, bit_bytes, held_in, value_in, RowToRun}
 use Rattle.row_values.specs.declared.Step.{Step}
 use Rattle.row_values.proofs.BitLaws.{bytes-at, bits_at, binary-set, binary-sets}
 use Rattle.row_values.proofs.RowValueLaws.{input-is}
@@ -122,7 +122,7 @@ module _ (f : List ℕ) (n : ℕ) (N : Ready CheckedRows f n) where
       same-room = ap length Q.values ∙ length-sets v s.current (bit_bytes (values i))
 
       written : length (bit_bytes (values i)) ≡ i
-      written = length-map (values i) bit-byte ∙ values_length bool_logic (netlist_of f) (state_from (netlist_of f) v s) (step_inputs (netlist_of f) inputs s.base) i
+      written = length-map (values i) bit_byte ∙ values_length bool_logic (netlist_of f) (state_from (netlist_of f) v s) (step_inputs (netlist_of f) inputs s.base) i
 
       module _ (h : i < n) where
         fits : s.current + length (bit_bytes (values i)) ≤ length v
@@ -155,7 +155,7 @@ module _ (f : List ℕ) (n : ℕ) (N : Ready CheckedRows f n) where
         input-is-at : (k : ℕ) → k ≡ place_among is_input (netlist_of f) i → (l p : ℕ) → row_at (netlist_of f) i ≡ input l p → truth_at inputs (s.base + k) ≡ step_inputs (netlist_of f) inputs s.base l p
         input-is-at k ek l p e = ap (bit_from inputs s.base) (ek ∙ ap (place_among is_input (netlist_of f)) (sym (input-place (netlist_of f) N.rows.unique i (in_rows i h) l p e)))
 
-        pub evaluate-more : (k x : ℕ) → k ≡ place_among is_input (netlist_of f) i → x ≡ bit-byte (value_in w inputs s k i (row_at (netlist_of f) i)) → ValuesStand f inputs s v (i + 1) (set w (s.current + i) x)
+        pub evaluate-more : (k x : ℕ) → k ≡ place_among is_input (netlist_of f) i → x ≡ bit_byte (value_in w inputs s k i (row_at (netlist_of f) i)) → ValuesStand f inputs s v (i + 1) (set w (s.current + i) x)
         unfolding values_up_to
         evaluate-more k x ek ex =
             let rows = netlist_of f in
@@ -169,8 +169,8 @@ module _ (f : List ℕ) (n : ℕ) (N : Ready CheckedRows f n) where
             ∙ row-cong bool_logic (value_at bool_logic t i) u (bit_from w s.current) (value_at bool_logic (values i)) i value-is r (N.rows.operands i (in_rows i h)) in
             record {
               values = put_last w v (bit_bytes (values i)) s.current (s.current + i) x Q.values (omega (arith, written))
-                  ∙ ap (λ (z : ℕ). sets v s.current (bit_bytes (values i) ++ (z ∷ []))) (ex ∙ ap bit-byte value)
-                  ∙ ap (λ (l : List ℕ). sets v s.current l) (sym (map-append bit-byte (values i) (y ∷ [])))
+                  ∙ ap (λ (z : ℕ). sets v s.current (bit_bytes (values i) ++ (z ∷ []))) (ex ∙ ap bit_byte value)
+                  ∙ ap (λ (l : List ℕ). sets v s.current l) (sym (map-append bit_byte (values i) (y ∷ [])))
                   ∙ ap (λ (m : ℕ). sets v s.current (bit_bytes (values m))) (sym (add-one i));
             }
 
@@ -200,18 +200,18 @@ module _ (f : List ℕ) (n : ℕ) (N : Ready CheckedRows f n) where
     start_bytes = bit_bytes (map start_in (netlist_of f))
 
     bytes-length : length start_bytes ≡ n
-    bytes-length = length-map (map start_in (netlist_of f)) bit-byte ∙ length-map (netlist_of f) start_in ∙ sym N.file.count
+    bytes-length = length-map (map start_in (netlist_of f)) bit_byte ∙ length-map (netlist_of f) start_in ∙ sym N.file.count
 
-    byte-is : (i : ℕ) → byte_at start_bytes i ≡ bit-byte (start_in (row_at (netlist_of f) i))
-    byte-is i = bytes-at (map start_in (netlist_of f)) i ∙ ap bit-byte (get_or-map start_in (netlist_of f) i constant)
+    byte-is : (i : ℕ) → byte_at start_bytes i ≡ bit_byte (start_in (row_at (netlist_of f) i))
+    byte-is i = bytes-at (map start_in (netlist_of f)) i ∙ ap bit_byte (get_or-map start_in (netlist_of f) i constant)
 
     -- Memory w, which was v, has the bytes of the first i rows from n on.
     module _ (v w : List ℕ) (i : ℕ) (ew : w ≡ sets v n (take i start_bytes)) where
-      pub start-more : i < n → (k x : ℕ) → k ≡ place_among is_unknown (netlist_of f) i → x ≡ bit-byte (reset_value bool_logic (λ l. truth_at choices k) (row_at (netlist_of f) i)) → set w (n + i) x ≡ sets v n (take (i + 1) start_bytes)
+      pub start-more : i < n → (k x : ℕ) → k ≡ place_among is_unknown (netlist_of f) i → x ≡ bit_byte (reset_value bool_logic (λ l. truth_at choices k) (row_at (netlist_of f) i)) → set w (n + i) x ≡ sets v n (take (i + 1) start_bytes)
       start-more h k x ek ex =
           put_next w v start_bytes n i (n + i) x ew (omega (arith, bytes-length)) refl
           (ex
-          ∙ ap bit-byte (choice-cong (λ l. truth_at choices k) (reset_choices (netlist_of f) choices) (row_at (netlist_of f) i) (λ s m l e. ap (truth_at choices) (ek ∙ ap (place_among is_unknown (netlist_of f)) (sym (register-place (netlist_of f) N.rows.unique i (in_rows i h) s m l e)))))
+          ∙ ap bit_byte (choice-cong (λ l. truth_at choices k) (reset_choices (netlist_of f) choices) (row_at (netlist_of f) i) (λ s m l e. ap (truth_at choices) (ek ∙ ap (place_among is_unknown (netlist_of f)) (sym (register-place (netlist_of f) N.rows.unique i (in_rows i h) s m l e)))))
           ∙ sym (byte-is i))
 
       -- All rows.

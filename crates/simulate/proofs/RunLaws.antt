@@ -24,7 +24,7 @@ use Rattle.netlist.proofs.RowLaws.{output-is}
 use Rattle.netlist.proofs.SimulationLaws.{values_length}
 use Rattle.netlist.specs.WellFormed.{CheckedRows}
 use Rattle.blockfile.specs.Ready.{Ready}
-use Rattle.row_values.specs.Values.{bit, bit_from, bit-byte, bit_bytes}
+use Rattle.row_values.specs.Values.{bit, bit_from, bit_byte, bit_bytes}
 use Rattle.row_values.specs.declared.Step.{Step}
 use Rattle.row_values.proofs.BitLaws.{bit-byte, bytes-at, bits_at, binary-bytes}
 use Rattle.simulate.specs.StepValues.{state_from, next_step, step_inputs, reset_choices, step_from, shown_bytes}
@@ -34,8 +34,8 @@ use Rattle.simulate.proofs.PlaceLaws.{node-before, output-from, count-parts}
 use Rattle.simulate.proofs.PassLaws.{next-cong, room-written, halves-written}
 
 -- The initial step of a run over n rows.
-abbrev first-step : ℕ → Step
-first-step n = record { base = 0; current = 0; previous = n; initial = true }
+abbrev first_step : ℕ → Step
+first_step n = record { base = 0; current = 0; previous = n; initial = true }
 
 -- ---- numbers
 
@@ -83,7 +83,7 @@ shown-output x r e = rw (output-is r e).3
 module _ (rows : List Row) (vs : List Bool) where
   -- What row i shows.
   abbrev shown_at : ℕ → List ℕ
-  shown_at i = on_output [] (λ a l p. bit-byte (value_at bool_logic vs i) ∷ []) (row_at rows i)
+  shown_at i = on_output [] (λ a l p. bit_byte (value_at bool_logic vs i) ∷ []) (row_at rows i)
 
   shown-upto : (m : ℕ) → m ≤ length rows → length (join_below m shown_at) ≡ count_if is_output (take m rows)
   shown-upto zero h = refl
@@ -91,8 +91,8 @@ module _ (rows : List Row) (vs : List Bool) where
     where
       go : (t : Bool) → is_output (row_at rows m) ≡ t → length (join_below m shown_at) ≡ count_if is_output (take m rows) → count_if is_output (take (m + 1) rows) ≡ count_if is_output (take m rows) + cond (is_output (row_at rows m)) 1 0
           → length (join_below m shown_at) + length (shown_at m) ≡ count_if is_output (take (suc m) rows)
-      go true e ih q = rw (shown-output (bit-byte (value_at bool_logic vs m)) (row_at rows m) e, sym (add-one m)) (omega (arith, ap (λ (b : Bool). cond {A = ℕ} b 1 0) e))
-      go false e ih q = rw (shown-node (bit-byte (value_at bool_logic vs m)) (row_at rows m) e, sym (add-one m)) (omega (arith, ap (λ (b : Bool). cond {A = ℕ} b 1 0) e))
+      go true e ih q = rw (shown-output (bit_byte (value_at bool_logic vs m)) (row_at rows m) e, sym (add-one m)) (omega (arith, ap (λ (b : Bool). cond {A = ℕ} b 1 0) e))
+      go false e ih q = rw (shown-node (bit_byte (value_at bool_logic vs m)) (row_at rows m) e, sym (add-one m)) (omega (arith, ap (λ (b : Bool). cond {A = ℕ} b 1 0) e))
 
   pub shown-length : length (shown_bytes rows vs) ≡ count_if is_output rows
   unfolding shown_bytes
@@ -109,7 +109,7 @@ module _ (f : List ℕ) (n : ℕ) (N : Ready CheckedRows f n) where
   nodes-most = omega (arith, count-parts is_output constant (netlist_of f), N.file.count)
 
   -- The bytes of the outputs, where the rows' bytes stand from o on.
-  shown-is : (vs : List Bool) (w : List ℕ) (o : ℕ) → o + n ≤ length w → ((j : ℕ) → j < n → byte_at w (o + j) ≡ bit-byte (value_at bool_logic vs j)) → take (n - nodes) (drop (o + nodes) w) ≡ shown_bytes (netlist_of f) vs
+  shown-is : (vs : List Bool) (w : List ℕ) (o : ℕ) → o + n ≤ length w → ((j : ℕ) → j < n → byte_at w (o + j) ≡ bit_byte (value_at bool_logic vs j)) → take (n - nodes) (drop (o + nodes) w) ≡ shown_bytes (netlist_of f) vs
   unfolding shown_bytes
   shown-is vs w o room bytes =
       let rows = netlist_of f in
@@ -118,19 +118,19 @@ module _ (f : List ℕ) (n : ℕ) (N : Ready CheckedRows f n) where
       sym
       (ap (λ (k : ℕ). join_below k (shown_at rows vs)) (sym z)
       ∙ join-tail (shown_at rows vs) w nodes (o + nodes) (n - nodes) (omega arith)
-      (λ j l. shown-node (bit-byte (value_at bool_logic vs j)) (row_at rows j) (node-before rows N.rows.nodes-first j l))
+      (λ j l. shown-node (bit_byte (value_at bool_logic vs j)) (row_at rows j) (node-before rows N.rows.nodes-first j l))
       (λ j l.
       let q : o + nodes + j ≡ o + (nodes + j) = omega arith in
-      shown-output (bit-byte (value_at bool_logic vs (nodes + j))) (row_at rows (nodes + j)) (output-from rows N.rows.nodes-first (nodes + j) (omega (arith, N.file.count)) (omega arith))
+      shown-output (bit_byte (value_at bool_logic vs (nodes + j))) (row_at rows (nodes + j)) (output-from rows N.rows.nodes-first (nodes + j) (omega (arith, N.file.count)) (omega arith))
       ∙ ap (λ (x : ℕ). x ∷ []) (sym (ap (byte_at w) q ∙ bytes (nodes + j) (omega arith)))))
 
   -- ---- states
 
   -- The state that was written for the initial step.
-  state-written : (v w : List ℕ) → ValuesRoom n v → (ss : List Bool) → length ss ≡ length (netlist_of f) → w ≡ sets v n (bit_bytes ss) → state_from (netlist_of f) w (first-step n) ≡ ss
+  state-written : (v w : List ℕ) → ValuesRoom n v → (ss : List Bool) → length ss ≡ length (netlist_of f) → w ≡ sets v n (bit_bytes ss) → state_from (netlist_of f) w (first_step n) ≡ ss
   state-written v w W ss e ew =
       let m = length (netlist_of f) in
-      let k = length-map ss bit-byte in
+      let k = length-map ss bit_byte in
       let fits : n + length (bit_bytes ss) ≤ length v = omega (arith, N.file.count, W.fits) in
       ext_get_or false (tabulate m (bit_from w n)) ss (tabulate-length m (bit_from w n) ∙ sym e) (λ j l.
       let b : j < m = omega (arith, l, tabulate-length m (bit_from w n)) in
@@ -140,9 +140,9 @@ module _ (f : List ℕ) (n : ℕ) (N : Ready CheckedRows f n) where
 
   -- Values vs that were written from o on.
   module _ (o : ℕ) (v w : List ℕ) (vs : List Bool) (room : o + n ≤ length v) (count : length vs ≡ n) (ew : w ≡ sets v o (bit_bytes vs)) where
-    values-written : (j : ℕ) → j < n → byte_at w (o + j) ≡ bit-byte (value_at bool_logic vs j)
+    values-written : (j : ℕ) → j < n → byte_at w (o + j) ≡ bit_byte (value_at bool_logic vs j)
     values-written j l =
-        let k = length-map vs bit-byte in
+        let k = length-map vs bit_byte in
         ap (λ (l : List ℕ). byte_at l (o + j)) ew ∙ sets-at (bit_bytes vs) v o j (omega arith) (omega arith) ∙ bytes-at vs j
 
     -- The state that the next step begins with.
@@ -223,7 +223,7 @@ module _ {f : List ℕ} {n nds ins T : ℕ} {choices inputs r₀ : List ℕ} (G 
   outputs-count : n - nds ≡ count_if is_output (netlist_of f)
   outputs-count = outputs-are f n G.netlist nds G.nodes-are
 
-  pub run_none : {v w : List ℕ} → ValuesRoom n v → w ≡ sets v n (bit_bytes (map (reset_value bool_logic (reset_choices (netlist_of f) choices)) (netlist_of f))) → Running f n nds ins T choices inputs w r₀ (first-step n) 0 0 w r₀
+  pub run_none : {v w : List ℕ} → ValuesRoom n v → w ≡ sets v n (bit_bytes (map (reset_value bool_logic (reset_choices (netlist_of f) choices)) (netlist_of f))) → Running f n nds ins T choices inputs w r₀ (first_step n) 0 0 w r₀
   unfolding run_state run_bytes values_from_bytes
   run_none {v} {w} R e =
       let first = map (reset_value bool_logic (reset_choices (netlist_of f) choices)) (netlist_of f) in

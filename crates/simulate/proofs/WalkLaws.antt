@@ -19,7 +19,7 @@ use Rattle.blockfile.specs.BlockRows.{BlockStart, BlockRows}
 use Rattle.blockfile.specs.Ready.{Ready}
 use Rattle.blockfile.proofs.RowCodeLaws.{kind-known}
 use Rattle.blockfile.proofs.BlockRowsLaws.{start_first, start-next, whole-more, block-whole, block-rest, first-most, RowsWalked, walk_none, walk-within, walk-offset, walk-small, walk_more, walk-all}
-use Rattle.row_values.specs.Values.{bit-byte, bit_bytes, no_value, value_in, RowInStep}
+use Rattle.row_values.specs.Values.{bit_byte, bit_bytes, no_value, value_in, RowInStep}
 use Rattle.row_values.specs.declared.Step.{Step}
 use Rattle.row_values.proofs.BitLaws.{byte-most, binary-bytes}
 use Rattle.simulate.specs.StepValues.{values_before, step_from}
@@ -80,12 +80,12 @@ module _ {f inputs : List ℕ} {s : Step} {start stop first : ℕ} {w₀ : List 
       walked-target = omega (arith, in-netlist, U.halves.current-fits)
 
       -- One row more.
-      pub walked_more : {o x : ℕ} → o ≡ cond (eqb (byte_at f offset) 1) 1 0 → x ≡ if_known (byte_at f offset) (bit-byte (value_in w inputs s used row (row_at (netlist_of f) row))) no_value
+      pub walked_more : {o x : ℕ} → o ≡ cond (eqb (byte_at f offset) 1) 1 0 → x ≡ if_known (byte_at f offset) (bit_byte (value_in w inputs s used row (row_at (netlist_of f) row))) no_value
           → Walked f inputs s start stop first w₀ (set w (s.current + row) x) (row + 1) (offset + 8) (used + o)
       walked_more {o} {x} eo answer =
           let n = length (netlist_of f) in
           let y = value_in w inputs s used row (row_at (netlist_of f) row) in
-          let ex : x ≡ bit-byte y = answer ∙ kind-known (byte_at f offset) (bit-byte y) no_value known in
+          let ex : x ≡ bit_byte y = answer ∙ kind-known (byte_at f offset) (bit_byte y) no_value known in
           record {
             rows = walk_more U.rows less;
             used-is = input-next f n N row offset in-netlist at_row used U.used-is o eo;

@@ -6,7 +6,7 @@ use Rattle.memory.specs.Lists.{join_below, tabulate}
 use Rattle.netlist.specs.Rows.{Row, is_input, is_unknown, row_at, on_output, row_named}
 use Rattle.netlist.specs.Simulation.{bool_logic, value_at, values_up_to, step_values}
 use Rattle.netlist.specs.RunLayout.{place_among}
-use Rattle.row_values.specs.Values.{truth_at, bit-byte, held_in}
+use Rattle.row_values.specs.Values.{truth_at, bit_byte, held_in}
 use Rattle.row_values.specs.declared.Step.{Step}
 
 -- The state that the step s begins with.
@@ -35,4 +35,4 @@ step_from rows inputs work s = step_values bool_logic rows (state_from rows work
 
 -- What the outputs show of the rows' values, a byte each.
 unfoldable pub shown_bytes : List Row → List Bool → List ℕ
-shown_bytes rows vs = join_below (length rows) (λ i. on_output [] (λ a l p. bit-byte (value_at bool_logic vs i) ∷ []) (row_at rows i))
+shown_bytes rows vs = join_below (length rows) (λ i. on_output [] (λ a l p. bit_byte (value_at bool_logic vs i) ∷ []) (row_at rows i))

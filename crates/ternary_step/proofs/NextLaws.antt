@@ -23,7 +23,7 @@ use Rattle.netlist.specs.WellFormed.{FoldableRows}
 use Rattle.netlist.proofs.SimulationLaws.{literal-cong}
 use Rattle.lasso.specs.Generators.{state_value}
 use Rattle.fold_memory.specs.WorkMap.{value_offset, next_offset, state_bytes, state_offset}
-use Rattle.ternary_step.specs.StateMap.{Packed, registers_before, next_of, state_codes, Stored, value_in, step-value, Valued, Coded, literal_in, Evaluated, NextsListed, NextReady, shown_codes, Searched}
+use Rattle.ternary_step.specs.StateMap.{Packed, registers_before, next_of, state_codes, Stored, value_in, step_value, Valued, Coded, literal_in, Evaluated, NextsListed, NextReady, shown_codes, Searched}
 use Rattle.ternary_step.proofs.CodeLaws.{packed-small, packed_more}
 use Rattle.ternary_step.proofs.RegisterLaws.{on-next, before-yes, before-no, before-all, codes-register, codes-other, state-held}
 use Rattle.ternary_step.proofs.StateLaws.{IsCode}
@@ -108,8 +108,8 @@ module _ {rows : List Row} (accepted : FoldableRows rows) where
           let l = next_of (row_at rows i) in
           rw (nexts i h e)
           (ap code_of
-          (literal-cong ternary_logic (value_in w) (step-value rows u) l (ap value_of (values (l / 2) (next-below i h e)) ∙ value-of-code (step-value rows u (l / 2)))
-          ∙ sym (state-held rows (suc u) i ∙ on-next _ (literal_value ternary_logic (step-value rows u)) (row_at rows i) e)))
+          (literal-cong ternary_logic (value_in w) (step_value rows u) l (ap value_of (values (l / 2) (next-below i h e)) ∙ value-of-code (step_value rows u (l / 2)))
+          ∙ sym (state-held rows (suc u) i ∙ on-next _ (literal_value ternary_logic (step_value rows u)) (row_at rows i) e)))
 
       shown-part : (i : ℕ) → i ≤ length rows → shown_codes w (registers_before rows i) ≡ state_codes rows (suc u) i
       unfolding state_codes

@@ -21,7 +21,7 @@ use Rattle.lasso.specs.TernaryRun.{ternary_logic, ternary_state}
 use Rattle.netlist.specs.WellFormed.{Ordered}
 use Rattle.netlist.proofs.SimulationLaws.{held, state-at, value-at}
 use Rattle.lasso.specs.Generators.{state_value}
-use Rattle.ternary_step.specs.StateMap.{registers_before, next_of, state_codes, step-value}
+use Rattle.ternary_step.specs.StateMap.{registers_before, next_of, state_codes, step_value}
 
 -- ---- rows by kind
 
@@ -152,7 +152,7 @@ module _ (rows : List Row) where
   state-length zero = length-map rows _
   state-length (suc t) = length-map rows _
 
-  pub step-value : Ordered rows → (t i : ℕ) → i < length rows → step-value rows t i ≡ row_value ternary_logic (state_value rows i t) (λ l p. X) (step-value rows t) (row_at rows i)
+  pub step-value : Ordered rows → (t i : ℕ) → i < length rows → step_value rows t i ≡ row_value ternary_logic (state_value rows i t) (λ l p. X) (step_value rows t) (row_at rows i)
   step-value o t i h =
       value-at ternary_logic rows (λ l. X) (λ s l p. X) o t i h
-      ∙ ap (λ (x : Ternary). row_value ternary_logic x (λ l p. X) (step-value rows t) (row_at rows i)) (sym (state-held t i))
+      ∙ ap (λ (x : Ternary). row_value ternary_logic x (λ l p. X) (step_value rows t) (row_at rows i)) (sym (state-held t i))

@@ -17,7 +17,7 @@ use Rattle.blockfile.specs.RowCode.{if_known}
 use Rattle.blockfile.proofs.RowCodeLaws.{kind-unknown}
 use Rattle.blockfile.specs.declared.Fields.{Fields}
 use Rattle.fold_memory.specs.WorkMap.{value_offset, state_bytes}
-use Rattle.ternary_step.specs.StateMap.{code_at, value_in, Coded, literal_in, RowToEvaluate, row_in, no-code}
+use Rattle.ternary_step.specs.StateMap.{code_at, value_in, Coded, literal_in, RowToEvaluate, row_in, no_code}
 
 -- ---- codes
 
@@ -27,7 +27,7 @@ code-of-value (suc zero) h = refl
 code-of-value (suc (suc zero)) h = refl
 code-of-value (suc (suc (suc x))) h = absurd (omega arith)
 
-pub no-code : (v : Ternary) → code_of v ≡ no-code → ⊥
+pub no-code : (v : Ternary) → code_of v ≡ no_code → ⊥
 no-code v e = omega (arith, code_below v)
 
 -- r is the code of v, and so below 3.
@@ -98,7 +98,7 @@ module _ (w : List ℕ) (r : Fields) (base j : ℕ) (R : RowToEvaluate w r base 
 
   -- What is answered for the row.
   abbrev IsValue : ℕ → Type 0
-  IsValue x = x ≡ if_known r.kind (code_of (row_in w r base j)) no-code
+  IsValue x = x ≡ if_known r.kind (code_of (row_in w r base j)) no_code
 
   pub row-register : (x : ℕ) → r.kind ≡ 2 → x ≡ code_at w base j → IsValue x
   row-register x e h = rw e (h ∙ sym (code-of-value (code_at w base j) (is_held e).1))
@@ -116,5 +116,5 @@ module _ (w : List ℕ) (r : Fields) (base j : ℕ) (R : RowToEvaluate w r base 
   row_output x e h = rw e h
 
   -- A kind above 6 gets no code.
-  pub row-unknown : (r.kind ≡ 0 → ⊥) → (r.kind ≡ 1 → ⊥) → (r.kind ≡ 2 → ⊥) → (r.kind ≡ 3 → ⊥) → (r.kind ≡ 4 → ⊥) → (r.kind ≡ 5 → ⊥) → (r.kind ≡ 6 → ⊥) → IsValue no-code
-  row-unknown = kind-unknown r.kind (code_of (row_in w r base j)) no-code
+  pub row-unknown : (r.kind ≡ 0 → ⊥) → (r.kind ≡ 1 → ⊥) → (r.kind ≡ 2 → ⊥) → (r.kind ≡ 3 → ⊥) → (r.kind ≡ 4 → ⊥) → (r.kind ≡ 5 → ⊥) → (r.kind ≡ 6 → ⊥) → IsValue no_code
+  row-unknown = kind-unknown r.kind (code_of (row_in w r base j)) no_code

@@ -33,7 +33,7 @@ use Rattle.blockfile.proofs.RowCodeLaws.{kind-known}
 use Rattle.blockfile.specs.declared.Fields.{Fields}
 use Rattle.blockfile.proofs.CountLaws.{sorts-by}
 use Rattle.fold_memory.specs.WorkMap.{value_offset, next_offset, state_bytes, state_offset}
-use Rattle.ternary_step.specs.StateMap.{code_at, Packed, registers_before, state_codes, value_in, step-value, Coded, RowToEvaluate, row_in, no-code, AtRow, Evaluated, NextsListed, Started}
+use Rattle.ternary_step.specs.StateMap.{code_at, Packed, registers_before, state_codes, value_in, step_value, Coded, RowToEvaluate, row_in, no_code, AtRow, Evaluated, NextsListed, Started}
 use Rattle.ternary_step.proofs.CodeLaws.{packed-at, packed-small, packed_more, packed-kept}
 use Rattle.ternary_step.proofs.RegisterLaws.{register-row, before-all, reset-code, row-held, before-less, codes-register, codes-other, codes-length, codes_at, state-held, step-value}
 
@@ -182,26 +182,26 @@ module _ {f : List ℕ} {n i j : ℕ} (A : AtRow f n i j) where
       value-held false e = row-held ternary_logic (value_of (code_at w base j)) (state_value (netlist_of f) i t) (λ l p. X) (value_in w) (row_at (netlist_of f) i) e
 
       -- The value worked out is the run's.
-      row-value-is : row_in w r base j ≡ step-value (netlist_of f) t i
+      row-value-is : row_in w r base j ≡ step_value (netlist_of f) t i
       row-value-is =
           let o = A.ready.rows.checked.operands in
           ap (row_value ternary_logic (value_of (code_at w base j)) (λ l p. X) (value_in w)) (sym row_is)
           ∙ value-held (is_register (row_at (netlist_of f) i)) refl
-          ∙ row-cong ternary_logic (state_value (netlist_of f) i t) (λ l p. X) (value_in w) (step-value (netlist_of f) t) i (λ x h. ap value_of (E.values x h) ∙ value-of-code (step-value (netlist_of f) t x)) (row_at (netlist_of f) i) (o i row_within)
+          ∙ row-cong ternary_logic (state_value (netlist_of f) i t) (λ l p. X) (value_in w) (step_value (netlist_of f) t) i (λ x h. ap value_of (E.values x h) ∙ value-of-code (step_value (netlist_of f) t x)) (row_at (netlist_of f) i) (o i row_within)
           ∙ sym (step-value (netlist_of f) o t i row_within)
 
-      evaluated-more : (x : ℕ) → x ≡ if_known r.kind (code_of (row_in w r base j)) no-code → Evaluated (netlist_of f) (set w (value_offset i) x) t (i + 1)
+      evaluated-more : (x : ℕ) → x ≡ if_known r.kind (code_of (row_in w r base j)) no_code → Evaluated (netlist_of f) (set w (value_offset i) x) t (i + 1)
       evaluated-more x e =
           let s = row_small in
           let K : ValuesKept w (set w (value_offset i) x) = values-set w x in
           let c = E.coded.room in
           let here : byte_at (set w (value_offset i) x) (value_offset i) ≡ x = get_or-set_same w (value_offset i) x 0 (omega arith) in
-          let v : x ≡ code_of (step-value (netlist_of f) t i) = e ∙ kind-known r.kind (code_of (row_in w r base j)) no-code kind-is ∙ ap code_of row-value-is in
+          let v : x ≡ code_of (step_value (netlist_of f) t i) = e ∙ kind-known r.kind (code_of (row_in w r base j)) no_code kind-is ∙ ap code_of row-value-is in
           record {
             coded = record {
               room = omega (arith, K.long);
               code = λ y l. at-or y
-                  (λ q. rw (q, here, v) (code_below (step-value (netlist_of f) t i)))
+                  (λ q. rw (q, here, v) (code_below (step_value (netlist_of f) t i)))
                   (λ q. rw q (E.coded.code y l));
             };
             room = rw K.long E.room;
@@ -321,5 +321,5 @@ module _ {f : List ℕ} {n i j : ℕ} (A : AtRow f n i j) where
       pub value-number : {k : ℕ} → k ≡ j + cond (eqb r.kind 2) 1 0 → k ≡ registers_before (netlist_of f) (i + 1)
       value-number {k} n = number-next r row_read k n
 
-      pub value-put : {x : ℕ} → x ≡ if_known r.kind (code_of (row_in w r base j)) no-code → Evaluated (netlist_of f) (set w (value_offset i) x) t (i + 1)
+      pub value-put : {x : ℕ} → x ≡ if_known r.kind (code_of (row_in w r base j)) no_code → Evaluated (netlist_of f) (set w (value_offset i) x) t (i + 1)
       value-put {x} e = evaluated-more r row_read E at-state x e

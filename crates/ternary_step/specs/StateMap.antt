@@ -58,12 +58,12 @@ abbrev pub value_in : List ℕ → ℕ → Ternary
 value_in w x = value_of (byte_at w (value_offset x))
 
 -- The value of row x in step t of the three-valued run.
-abbrev pub step-value : List Row → ℕ → ℕ → Ternary
-step-value rows t x = run_value ternary_logic rows (λ l. X) (λ s l p. X) t x
+abbrev pub step_value : List Row → ℕ → ℕ → Ternary
+step_value rows t x = run_value ternary_logic rows (λ l. X) (λ s l p. X) t x
 
 -- The values of the first i rows in step t.
 abbrev pub Valued : List Row → List ℕ → ℕ → ℕ → Type 0
-Valued rows w t i = (x : ℕ) → x < i → byte_at w (value_offset x) ≡ code_of (step-value rows t x)
+Valued rows w t i = (x : ℕ) → x < i → byte_at w (value_offset x) ≡ code_of (step_value rows t x)
 
 -- The memory has room for the values and the list, and each row's byte is a code.
 pub record Coded (w : List ℕ) : Type 0 where
@@ -88,8 +88,8 @@ abbrev pub row_in : List ℕ → Fields → ℕ → ℕ → Ternary
 row_in w r base j = row_value ternary_logic (value_of (code_at w base j)) (λ l p. X) (value_in w) (decode_row (fields_in r))
 
 -- A byte that is no code.
-abbrev pub no-code : ℕ
-no-code = 3
+abbrev pub no_code : ℕ
+no_code = 3
 
 -- Row i is one of the n rows of the file f, and j registers stand before it.
 pub record AtRow (f : List ℕ) (n i j : ℕ) : Type 0 where

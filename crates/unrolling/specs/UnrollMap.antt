@@ -42,12 +42,12 @@ abbrev pub rows_made : MadeImage → ℕ
 rows_made (Existing l) = 0
 rows_made (NewRow x b) = 1
 
-abbrev pub row-written : ℕ → MadeImage → List ℕ → List ℕ
-row-written m (Existing l) result = result
-row-written m (NewRow x b) result = sets result (row_offset m) (field_bytes (made_fields x))
+abbrev pub row_written : ℕ → MadeImage → List ℕ → List ℕ
+row_written m (Existing l) result = result
+row_written m (NewRow x b) result = sets result (row_offset m) (field_bytes (made_fields x))
 
 pub record ImageStored (image : MadeImage) (m offset : ℕ) (result work result' work' : List ℕ) (r : ℕ) : Type 0 where
-  pub rows : result' ≡ row-written m image result
+  pub rows : result' ≡ row_written m image result
   pub literal : work' ≡ sets work offset (u16_bytes (literal_made m image))
   pub small : literal_made m image < 2 ^ 16
   pub count : r ≡ m + rows_made image

@@ -4,14 +4,14 @@ use Prim.Native.Nat.{◌-◌, ◌≤◌}
 use borrow.Author.Rules.{rules}
 use Rattle.netlist.specs.Rows.{row_at}
 use Rattle.gate_rows.specs.Sources.{source_rows}
-use Rattle.ordering.specs.GateOrder.{operands-of}
+use Rattle.ordering.specs.GateOrder.{operands_of}
 use Rattle.gate_rows.proofs.RowLaws.{rows_all, row_inside}
 use Rattle.gate_users.proofs.ListedLaws.{index_in, NotAmong, among_none, among-more, entry-is, user-has}
 use Rattle.gate_users.proofs.next_user.Statement.{statement}
 use Rattle.gate_users.proofs.next_user.Tie as tie
 
 abbrev invariant-operands : tie.invariant-operands
-invariant-operands source layout users rows user node count index₀ index = (index ≤ count) × NotAmong (operands-of (row_at (source_rows layout source) user)) index node
+invariant-operands source layout users rows user node count index₀ index = (index ≤ count) × NotAmong (operands_of (row_at (source_rows layout source) user)) index node
 
 abbrev decreases-operands : tie.decreases-operands
 decreases-operands source layout users rows user node count index₀ index = count - index

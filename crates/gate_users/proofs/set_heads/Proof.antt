@@ -5,7 +5,7 @@ use lib.ListN.{take}
 use borrow.Author.Rules.{rules}
 use Rattle.netlist.specs.Rows.{row_at}
 use Rattle.gate_rows.specs.Sources.{source_rows}
-use Rattle.ordering.specs.GateOrder.{operands-of}
+use Rattle.ordering.specs.GateOrder.{operands_of}
 use Rattle.gate_users.specs.Users.{HeadsSet}
 use Rattle.gate_users.proofs.ListedLaws.{index_in, node-room, set-start, set_next, set-end}
 use Rattle.gate_users.proofs.set_heads.Statement.{statement}
@@ -13,7 +13,7 @@ use Rattle.gate_users.proofs.set_heads.Tie as tie
 
 abbrev invariant-operands : tie.invariant-operands
 invariant-operands source layout users₀ row count index₀ users index =
-    (index ≤ count) × HeadsSet (source_rows layout source) row (take index (operands-of (row_at (source_rows layout source) row))) users₀ users
+    (index ≤ count) × HeadsSet (source_rows layout source) row (take index (operands_of (row_at (source_rows layout source) row))) users₀ users
 
 abbrev decreases-operands : tie.decreases-operands
 decreases-operands source layout users₀ row count index₀ users index = count - index
