@@ -1,4 +1,6 @@
 // Check: questions 1 to 10 of a whole file, in the paper's order.
+#![tactic(auto)]
+
 ghost use Rattle.std.specs.Prelude.{◌≡◌, false, ◌*◌, ◌<◌, ◌≤◌, length};
 ghost use Rattle.netlist.specs.Limits.{most_blocks};
 ghost use Rattle.netlist.specs.FileFormat.{read_fields, fields_of, netlist_of};
@@ -17,7 +19,7 @@ use netlist::MOST_FILE_BYTES;
 use row_questions::RowTests;
 
 // What a file is refused for, and the block or the row.
-#[derive(Drop)]
+#[derive(Clone, Copy)]
 pub enum FileRefusal {
     Length,
     Sum { block: u32 },
@@ -67,14 +69,14 @@ pub fn place_of(refusal: FileRefusal) -> u32
 }
 
 // How many rows an accepted file has, and of which sort; or what it is refused for.
-#[derive(Drop)]
+#[derive(Clone, Copy)]
 pub enum Acceptance {
     Accepted { rows: usize, counts: Counts },
     Refused(FileRefusal),
 }
 
 // What the questions of a part of the file come to.
-#[derive(Drop)]
+#[derive(Clone, Copy)]
 enum PartAnswer {
     Passed,
     Refused(FileRefusal),

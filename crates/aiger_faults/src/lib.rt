@@ -12,7 +12,7 @@ use names::name_fault;
 pub use words::header_number;
 
 // What stands where a number should; all but the first are none. LastSpace: the line ends behind a space.
-#[derive(Drop)]
+#[derive(Clone, Copy)]
 pub enum Word {
     Number,
     End,
@@ -27,7 +27,7 @@ pub enum Word {
 }
 
 // What is wrong. Nothing: no fault was found.
-#[derive(Drop)]
+#[derive(Clone, Copy)]
 pub enum Cause {
     Nothing,
     // The text does not open with "aag ", or opens as the binary format does.
@@ -71,7 +71,7 @@ pub enum Cause {
 }
 
 // A cause, and its line, counted from 1.
-#[derive(Drop)]
+#[derive(Clone, Copy)]
 pub struct Fault {
     pub line: usize,
     pub cause: Cause,
@@ -124,7 +124,7 @@ pub fn count_rows(text: &[u8]) -> usize {
 }
 
 // A gate's line, and the literal that it defines.
-#[derive(Drop)]
+#[derive(Clone, Copy)]
 pub struct Gate {
     pub line: usize,
     pub literal: u32,

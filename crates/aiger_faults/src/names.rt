@@ -17,7 +17,7 @@ const MOST_NAMES: usize = 6144;
 // ---- a walk over the lines
 
 // What a walk does with the names of each line.
-#[derive(Drop)]
+#[derive(Clone, Copy)]
 enum Task {
     // Definitions go into the tree, up to one that is there already.
     AddDefinitions,
@@ -32,7 +32,7 @@ enum Task {
 }
 
 // How many names the tree has; whether the walk ends before this line, and for which literal: 0 if the tree is full.
-#[derive(Drop)]
+#[derive(Clone, Copy)]
 struct Names {
     count: usize,
     ends: bool,
@@ -159,7 +159,7 @@ fn take_line(
 }
 
 // A walk is before counted line `k`, which begins at `at`, with so many names in the tree; it has ended there for the literal, if that is not 0.
-#[derive(Drop)]
+#[derive(Clone, Copy)]
 struct Walk {
     k: usize,
     at: usize,
@@ -233,14 +233,14 @@ fn fill_tree(
 // ---- windows
 
 // Which names are sought.
-#[derive(Drop)]
+#[derive(Clone, Copy)]
 enum Sought {
     Twice,
     Undefined,
 }
 
 // Where the next window begins; and a line that was found, with its literal, which is 0 if there is none.
-#[derive(Drop)]
+#[derive(Clone, Copy)]
 struct Window {
     k: usize,
     at: usize,

@@ -23,7 +23,7 @@ fn with_digit(value: u64, byte: u8) -> u64 {
 }
 
 // Where digits end, and their number.
-#[derive(Drop)]
+#[derive(Clone, Copy)]
 struct Digits {
     end: usize,
     value: u64,

@@ -1,4 +1,6 @@
 // An AIGER text read: its numbers, its lines, its header, and whether each line that the header counts is right by itself.
+#![tactic(auto)]
+
 ghost use Rattle.std.specs.Prelude.{◌≡◌, true, false, ◌&&◌, ◌||◌, ◌+◌, ◌-◌, ◌*◌, ◌<◌, ◌≤◌, length, drop};
 ghost use Rattle.std.proofs.Math.Option.{some};
 ghost use Rattle.aiger.specs.AigerText.{line_count, section_of, definition_right, line_right, opening};
@@ -8,14 +10,14 @@ ghost use Rattle.aiger_lines.specs.Lines.{header_in, section_in, number_read, Nu
 const LARGEST: u64 = 4294967295;
 
 // A number and where it ends, or other text.
-#[derive(Drop)]
+#[derive(Clone, Copy)]
 pub enum Number {
     Is(u32, usize),
     Other,
 }
 
 // The same, with the byte after it: a space, or the line feed that ends a line.
-#[derive(Drop)]
+#[derive(Clone, Copy)]
 pub enum Field {
     Next(u32, usize),
     Last(u32, usize),
@@ -23,7 +25,7 @@ pub enum Field {
 }
 
 // A line: how many numbers it has, these, 0 for one that it has not, and where the next line begins. It is not right if other text stands there.
-#[derive(Drop)]
+#[derive(Clone, Copy)]
 pub struct Line {
     pub right: bool,
     pub count: usize,
@@ -34,7 +36,7 @@ pub struct Line {
 }
 
 // M, I, L, O and A.
-#[derive(Drop)]
+#[derive(Clone, Copy)]
 pub struct Header {
     pub maximum: usize,
     pub inputs: usize,
@@ -44,14 +46,14 @@ pub struct Header {
 }
 
 // The header and where the first line begins, or other text.
-#[derive(Drop)]
+#[derive(Clone, Copy)]
 pub enum Headed {
     Is(Header, usize),
     Other,
 }
 
 // What a line is for.
-#[derive(Drop)]
+#[derive(Clone, Copy)]
 pub enum Section {
     Input,
     Latch,

@@ -11,7 +11,7 @@ use aiger_lines::{Header, Line, Section};
 pub const NAME_BYTES: usize = 393216;
 
 // Nodes `start` to `end` - 1. The first window has the nodes that count up from the constant, whose variables are their numbers; the nodes of the others are the entries of a tree, which stands behind the pairs.
-#[derive(Drop)]
+#[derive(Clone, Copy)]
 pub struct Window {
     pub start: usize,
     pub end: usize,
@@ -19,7 +19,7 @@ pub struct Window {
 }
 
 // A line, how many nodes are defined before it, the constant among them, and where it begins.
-#[derive(Drop)]
+#[derive(Clone, Copy)]
 pub struct Place {
     pub line: usize,
     pub node: usize,
@@ -27,21 +27,21 @@ pub struct Place {
 }
 
 // Where a window ends, or that a variable is defined twice.
-#[derive(Drop)]
+#[derive(Clone, Copy)]
 enum Filled {
     Is(Place),
     Twice,
 }
 
 // How many uses a window has, or that a variable is defined twice.
-#[derive(Drop)]
+#[derive(Clone, Copy)]
 enum Looked {
     Found(usize),
     Twice,
 }
 
 // Where a window ends and how many uses it has, or that a variable is defined twice.
-#[derive(Drop)]
+#[derive(Clone, Copy)]
 enum Taken {
     Is(Place, usize),
     Twice,

@@ -1,7 +1,7 @@
 // How many rows of each sort a file has.
 ghost use Rattle.std.specs.Prelude.{◌≡◌, cond, ◌≤◌};
 
-#[derive(Drop)]
+#[derive(Clone, Copy)]
 pub struct Counts {
     pub nodes: usize,
     pub inputs: usize,

@@ -31,7 +31,7 @@ pub fn both(x: bool, y: bool) -> bool
 }
 
 // A row's fields, as its eight bytes have them.
-#[derive(Drop)]
+#[derive(Clone, Copy)]
 pub struct Fields {
     pub kind: u8,
     pub reset: u8,

@@ -1,4 +1,6 @@
 // The blocks of a netlist file: questions 2 to 5, asked of one of them, and the writer.
+#![tactic(auto)]
+
 ghost use Rattle.std.specs.Prelude.{◌≡◌, ◌+◌, ◌*◌, ◌<◌, ◌≤◌, length};
 ghost use Rattle.memory.specs.Fields.{byte_at};
 ghost use Rattle.netlist.specs.Limits.{most_blocks};
@@ -11,7 +13,7 @@ use blockfile::both;
 pub mod writer;
 
 // A block is right, or the first question that it answers with no.
-#[derive(Drop)]
+#[derive(Clone, Copy)]
 pub enum BlockAnswer {
     Right,
     Sum,

@@ -30,7 +30,7 @@ pub fn interface_number() -> u32
 }
 
 #[repr(C)]
-#[derive(Drop)]
+#[derive(Clone, Copy)]
 pub struct PfRefusal {
     pub number: u32,
     pub place: u32,
@@ -70,7 +70,7 @@ pub fn fold_numbers(refusal: FoldRefusal) -> PfRefusal
 }
 
 #[repr(C)]
-#[derive(Drop)]
+#[derive(Clone, Copy)]
 pub struct PfCounts {
     pub number: u32,
     pub place: u32,
@@ -119,7 +119,7 @@ pub fn refused_counts(refusal: FileRefusal) -> PfCounts
 
 // Where the part that Show shows starts in the caller's file, and how many bytes it has.
 #[repr(C)]
-#[derive(Drop)]
+#[derive(Clone, Copy)]
 pub struct PfShown {
     pub number: u32,
     pub place: u32,
@@ -136,7 +136,7 @@ pub fn part_offset(number: u32, block: u32) -> u32
 }
 
 #[repr(C)]
-#[derive(Drop)]
+#[derive(Clone, Copy)]
 pub struct PfFolded {
     pub number: u32,
     pub place: u32,
@@ -180,7 +180,7 @@ pub fn folded_numbers(answer: Folding) -> PfFolded
 
 // What writes a file answers how many rows that has.
 #[repr(C)]
-#[derive(Drop)]
+#[derive(Clone, Copy)]
 pub struct PfWritten {
     pub number: u32,
     pub place: u32,
@@ -228,7 +228,7 @@ pub fn unimported(refusal: ImportRefusal) -> PfWritten
 
 // A trace that is taken back: how many steps it has.
 #[repr(C)]
-#[derive(Drop)]
+#[derive(Clone, Copy)]
 pub struct PfTraced {
     pub number: u32,
     pub place: u32,

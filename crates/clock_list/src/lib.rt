@@ -1,4 +1,6 @@
 // The lent clock list: a slice of clock structs, set from the entries that are packed in Fold's work memory.
+#![tactic(auto)]
+
 ghost use Rattle.std.specs.Prelude.{◌≡◌, ◌++◌, ◌<◌, ◌≤◌, length, set, drop};
 ghost use Rattle.memory.specs.Fields.{byte_at};
 ghost use Rattle.netlist.specs.Limits.{fold_clock_entries};
@@ -9,7 +11,7 @@ use fold_memory::ENTRIES;
 
 // A used generator: its register's label, its period, its values over the phases as bits, and how many of these are set.
 #[repr(C)]
-#[derive(Drop)]
+#[derive(Clone, Copy)]
 pub struct Clock {
     pub label: u16,
     pub period: u8,

@@ -1,4 +1,6 @@
 // The cone of influence of the rows in a buffer, sought from the roots on: a table has for each row a slot with its mark, and the rows found so far.
+#![tactic(auto)]
+
 ghost use Rattle.std.specs.Prelude.{◌≡◌, cond, [], ◌∷◌, ℕ, ◌+◌, ◌*◌, ◌<◌, ◌≤◌, ◌^◌, length};
 ghost use Rattle.memory.specs.Slots.{slot_at};
 ghost use Rattle.netlist.specs.Limits.{most_folded_rows, fold_result_bytes};

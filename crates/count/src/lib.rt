@@ -4,7 +4,7 @@ ghost use Rattle.count.specs.CountOutcome.{Counted};
 use accept::{Acceptance, FileRefusal};
 use blockfile::count::Counts;
 
-#[derive(Drop)]
+#[derive(Clone, Copy)]
 pub enum CountAnswer {
     Counted(Counts),
     Refused(FileRefusal),

@@ -5,11 +5,11 @@ use sort_answers::SortRefusal;
 use text::both;
 
 // A refusal's number and place by the scope paper; 0 and 0 for success.
-#[derive(Drop)]
+#[derive(Clone, Copy)]
 pub struct Seen(pub u32, pub u32);
 
 // How many expectations there were, and how many were met.
-#[derive(Drop)]
+#[derive(Clone, Copy)]
 pub struct Tally {
     pub asked: u32,
     pub met: u32,

@@ -5,7 +5,7 @@ ghost use Rattle.fold_answers.specs.FoldAnswers.{used_in};
 use fold_refusals::FoldRefusal;
 
 // Stem, cycle, phase count, used generators, and the row counts before and after.
-#[derive(Drop)]
+#[derive(Clone, Copy)]
 pub struct FoldNumbers {
     pub stem: u32,
     pub cycle: u32,
@@ -15,7 +15,7 @@ pub struct FoldNumbers {
     pub after: u32,
 }
 
-#[derive(Drop)]
+#[derive(Clone, Copy)]
 pub enum Folding {
     Done(FoldNumbers),
     Refused(FoldRefusal),

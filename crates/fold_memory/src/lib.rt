@@ -1,4 +1,6 @@
 // Fold's lent work memory: where each stage's bytes begin, as specs/WorkMap.antt defines it.
+#![tactic(auto)]
+
 ghost use Rattle.std.specs.Prelude.{◌≡◌, ◌≤◌};
 ghost use Rattle.netlist.specs.Limits.{last_state};
 ghost use Rattle.fold_memory.specs.WorkMap.{state_offset};

@@ -20,7 +20,7 @@ use netlist::{
 };
 
 // The row count of a file that passed, or the refusal.
-#[derive(Drop)]
+#[derive(Clone, Copy)]
 pub enum Asked {
     Passed(usize),
     Stopped(FoldRefusal),

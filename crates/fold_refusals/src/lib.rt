@@ -7,7 +7,7 @@ use accept::FileRefusal;
 pub mod asking;
 
 // What a fold is refused for; of a file, with its place.
-#[derive(Drop)]
+#[derive(Clone, Copy)]
 pub enum FoldRefusal {
     File(FileRefusal),
     Rows,

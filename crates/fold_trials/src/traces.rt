@@ -9,7 +9,7 @@ use trace_answers::Tracing;
 const TRACE_ROOM: usize = 32;
 
 // What is asked for. The digits of `values` are the choices and the inputs.
-#[derive(Drop)]
+#[derive(Clone, Copy)]
 struct Request {
     wish: u32,
     groups: u32,
@@ -20,14 +20,14 @@ struct Request {
 }
 
 // What is lent.
-#[derive(Drop)]
+#[derive(Clone, Copy)]
 struct Memories {
     result: usize,
     work: usize,
     trace: usize,
 }
 
-#[derive(Drop)]
+#[derive(Clone, Copy)]
 struct Answer {
     number: u32,
     place: u32,

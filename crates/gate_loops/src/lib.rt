@@ -1,5 +1,7 @@
 // Whether every gate can be placed, by a walk from each gate to those that it names.
 // A slot of two bytes for each row: 0 while it is not seen, 1 + the row that led to it while it is open (1 where the walk started), SETTLED once all that it names is settled. A walk that comes to an open row has met a loop.
+#![tactic(auto)]
+
 ghost use Rattle.std.specs.Prelude.{◌≡◌, true, false, ◌*◌, ◌<◌, ◌≤◌, ◌^◌, length, ltb};
 ghost use Rattle.memory.specs.Lists.{first_from};
 ghost use Rattle.netlist.specs.Rows.{row_at};

@@ -1,5 +1,7 @@
 // The new number of each row, where every gate can be placed.
 // A slot of two bytes: 0 while a row has no number, READY while it is a gate whose operands have theirs, then PLACED + its number.
+#![tactic(auto)]
+
 ghost use Rattle.std.specs.Prelude.{◌≡◌, cond, ◌+◌, ◌*◌, ◌<◌, ◌≤◌, ◌^◌, length, eqb};
 ghost use Rattle.memory.specs.Slots.{set_slot};
 ghost use Rattle.netlist.specs.Rows.{row_at};

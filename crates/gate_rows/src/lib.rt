@@ -1,4 +1,6 @@
 // The rows that are sorted, and the gates among them: how many operands a row has, and the nodes that they name. The rows stand in a netlist file, or as pairs.
+#![tactic(auto)]
+
 ghost use Rattle.std.specs.Prelude.{◌≡◌, ◌<◌, ◌≤◌, ◌^◌, length, get_or};
 ghost use Rattle.netlist.specs.Limits.{most_rows};
 ghost use Rattle.netlist.specs.Rows.{row_at, kind_of, encode_row};
@@ -9,7 +11,7 @@ ghost use Rattle.gate_rows.specs.Sources.{pair_count, pair_row, pair_kind, sourc
 use blockfile::Fields;
 
 // Rows that stand as pairs, by kind: the constant, then inputs, registers, ANDs and outputs, and how many of each.
-#[derive(Drop)]
+#[derive(Clone, Copy)]
 pub struct Pairs {
     pub inputs: usize,
     pub registers: usize,
@@ -18,7 +20,7 @@ pub struct Pairs {
 }
 
 // How rows stand in the bytes that are sorted: as a netlist file, or as pairs.
-#[derive(Drop)]
+#[derive(Clone, Copy)]
 pub enum Layout {
     File,
     Pairs(Pairs),

@@ -1,5 +1,7 @@
 // Which gates name a node, as lists in lent memory, the highest row first; 0 ends a list, since row 0 is no gate.
 // The head of node y's list stands at 2 * y. Behind the heads each row has three entries: entry k of row x is the user that follows x in the list of the node that operand k of x names.
+#![tactic(auto)]
+
 ghost use Rattle.std.specs.Prelude.{◌≡◌, true, ◌+◌, ◌*◌, ◌<◌, ◌≤◌, length};
 ghost use Rattle.netlist.specs.Limits.{most_rows};
 ghost use Rattle.netlist.specs.Rows.{row_at};

@@ -1,11 +1,13 @@
 // The gates of the fold: how a new gate is made from two or three literals.
+#![tactic(auto)]
+
 ghost use Rattle.std.specs.Prelude.{◌≡◌};
 ghost use Rattle.netlist.specs.Rows.{mux_gate};
 ghost use Rattle.abstraction.specs.GateMaking.{complement, new_row, make_and, make_xor, make_mux};
 ghost use Rattle.gates.specs.ImageCode.{image_code, pair_code};
 
 // The fields of a new row, as its eight bytes have them.
-#[derive(Drop)]
+#[derive(Clone, Copy)]
 pub struct MadeRow {
     pub kind: u8,
     pub reset: u8,
@@ -15,7 +17,7 @@ pub struct MadeRow {
 }
 
 // An image: a literal that is there, or a new row, complemented if the number is 1.
-#[derive(Drop)]
+#[derive(Clone, Copy)]
 pub enum MadeImage {
     Existing(u16),
     NewRow(MadeRow, u8),

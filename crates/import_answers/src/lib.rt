@@ -1,9 +1,11 @@
 // What Import answers, and what it promises (specs/ImportOutcome.antt).
+#![tactic(auto)]
+
 ghost use Rattle.std.specs.Prelude.{◌≡◌};
 ghost use Rattle.import_answers.specs.ImportAnswers.{import_refusal_in};
 
 // What a text is not imported for; of a loop of gates the row before sorting.
-#[derive(Drop)]
+#[derive(Clone, Copy)]
 pub enum ImportRefusal {
     Memory,
     Text,
@@ -35,7 +37,7 @@ pub fn place_of(refusal: ImportRefusal) -> u32
 }
 
 // How many rows the file has, or why there is none.
-#[derive(Drop)]
+#[derive(Clone, Copy)]
 pub enum Importing {
     Done { rows: u32 },
     Refused(ImportRefusal),

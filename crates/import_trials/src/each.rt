@@ -9,7 +9,7 @@ use text::bytes::first;
 use text::numbers::number_at;
 use text::out::{Out, one, put_filled, three, two};
 
-#[derive(Drop)]
+#[derive(Clone, Copy)]
 struct Each {
     inputs: usize,
     latches: usize,

@@ -7,7 +7,7 @@ use text::bytes::first;
 use text::numbers::number_at;
 use text::out::{Out, one, put_filled, three};
 
-#[derive(Drop)]
+#[derive(Clone, Copy)]
 struct Many {
     inputs: usize,
     step: usize,

@@ -114,7 +114,7 @@ fn work_right(work: &[u8], lent: usize) -> bool {
 // ---- both
 
 // The answer of the product, and whether it leaves what is expected.
-#[derive(Drop)]
+#[derive(Clone, Copy)]
 pub struct Tried {
     pub seen: Seen,
     pub left: bool,

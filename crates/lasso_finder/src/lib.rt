@@ -8,7 +8,7 @@ ghost use Rattle.ternary_step.specs.StateMap.{ClearedWork};
 ghost use Rattle.lasso_finder.specs.Outcome.{Analysed};
 
 // The lasso's stem and cycle, the phase count, and the number of used generators.
-#[derive(Drop)]
+#[derive(Clone, Copy)]
 pub struct Clocks {
     pub stem: usize,
     pub cycle: usize,
@@ -16,7 +16,7 @@ pub struct Clocks {
     pub used: usize,
 }
 
-#[derive(Drop)]
+#[derive(Clone, Copy)]
 pub enum Analysis {
     NoLasso,
     Found(Clocks),

@@ -38,7 +38,7 @@ fn same_state(work: &[u8], a: usize, b: usize, words: usize) -> bool
 }
 
 // State stem + cycle is the first to equal an earlier one, state stem; or none of states 1 to 256 does.
-#[derive(Drop)]
+#[derive(Clone, Copy)]
 pub enum Repeat {
     Found { stem: usize, cycle: usize },
     Never,

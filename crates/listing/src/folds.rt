@@ -16,7 +16,7 @@ pub fn work_room() -> [u8; 49152]
 }
 
 // A clock entry.
-#[derive(Drop)]
+#[derive(Clone, Copy)]
 pub struct Entry {
     pub label: u32,
     pub period: u32,

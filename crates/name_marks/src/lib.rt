@@ -1,4 +1,6 @@
 // Question 8: whether a row's name is new, by marks of the names that are taken.
+#![tactic(auto)]
+
 ghost use Rattle.std.specs.Prelude.{◌≡◌, ◌+◌, ◌*◌, ◌<◌, length, eqb};
 ghost use Rattle.netlist.specs.Rows.{row_at, has_name};
 ghost use Rattle.netlist.specs.FileFormat.{netlist_of};

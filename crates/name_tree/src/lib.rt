@@ -1,12 +1,14 @@
 // Numbers that are looked up, in a binary tree of entries: entry j stands at `base` + 8 * j, its number in four bytes, then its two children, two bytes each, 0 for none; entry 0 is the root, which is no child.
 // The way to a number goes by its bits, the lowest first. Different numbers part after 32 bits at most, so no way is longer than that.
+#![tactic(auto)]
+
 ghost use Rattle.std.specs.Prelude.{◌≡◌, true, false, ◌+◌, ◌*◌, ◌<◌, ◌≤◌, ◌^◌, length};
 ghost use Rattle.std.proofs.lemmas.List.Edits.{sets};
 ghost use Rattle.memory.specs.Fields.{u16_bytes};
 ghost use Rattle.name_tree.specs.Trees.{child_at, entry_of, Tree, Added, Written, Ended};
 
 // How far a way goes: to the entry of the number, or to one that has no child for its next bit.
-#[derive(Drop)]
+#[derive(Clone, Copy)]
 enum End {
     At(usize),
     Open(usize, usize),

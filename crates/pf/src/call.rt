@@ -2,7 +2,7 @@
 use text::bytes::same;
 
 // What a call asks for.
-#[derive(Drop)]
+#[derive(Clone, Copy)]
 pub enum Command {
     Check,
     Count,

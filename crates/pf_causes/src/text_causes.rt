@@ -5,7 +5,7 @@ use text::bytes::{find, get};
 use text::{both, either};
 
 // How a text is written, by its first bytes: as it is read, behind a byte-order mark, or as UTF-16.
-#[derive(Drop)]
+#[derive(Clone, Copy)]
 pub enum Encoding {
     Plain,
     Marked,

@@ -13,7 +13,7 @@ use text::out::{Out, one, put_byte, two};
 // ---- read
 
 // What is read of a text of values: how many, the line that is read, and whether the rest of it is a remark; and of the first byte that is no value its line, which of the values it is, and the byte. Lines are counted from 1, and 0 is none.
-#[derive(Drop)]
+#[derive(Clone, Copy)]
 pub struct Values {
     pub count: usize,
     line: usize,
@@ -114,7 +114,7 @@ fn read_values(bytes: &mut [u8], size: usize) -> Values {
 }
 
 // The values that a text gives, and how it is written; or that it cannot be read, which is told.
-#[derive(Drop)]
+#[derive(Clone, Copy)]
 pub enum Given {
     Values(Values, Encoding),
     None,
@@ -141,7 +141,7 @@ pub fn load_values(source: &[u8], room: &mut [u8]) -> Given {
 // ---- refused
 
 // What values are asked for: how many steps or groups, the counts of the file, and how the text of the values is written.
-#[derive(Drop)]
+#[derive(Clone, Copy)]
 pub struct Asked {
     pub steps: u32,
     pub counts: PfCounts,

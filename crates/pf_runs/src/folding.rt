@@ -109,7 +109,7 @@ fn tell_clocks(numbers: FoldNumbers, work: &[u8]) -> Outcome {
 // ---- the commands
 
 // What is made of a fold: its answers, with its file kept or not; or its clocks drawn.
-#[derive(Drop)]
+#[derive(Clone, Copy)]
 enum Wanted {
     Answers,
     Kept,

@@ -22,7 +22,7 @@ const MOST_GROUPS: u32 = 512;
 const TRACE_BYTES: usize = 1000000;
 
 // What a trace is asked for: the wish, how many groups, the phase in the last of them, and whether the original is run.
-#[derive(Drop)]
+#[derive(Clone, Copy)]
 struct Wanted {
     wish: u32,
     groups: u32,
@@ -31,7 +31,7 @@ struct Wanted {
 }
 
 // What is taken back: the values of a fold of so many phases, and what is asked of them.
-#[derive(Drop)]
+#[derive(Clone, Copy)]
 struct Taken {
     phases: u32,
     asked: Asked,
@@ -273,7 +273,7 @@ fn tell_wanted(path: &[u8], file: &[u8], wanted: Wanted, steps: u32, left: &[u8]
 // ---- the command
 
 // The phases and the counts of a fold, or its refusal.
-#[derive(Drop)]
+#[derive(Clone, Copy)]
 enum Folded {
     Is { phases: u32, counts: PfCounts },
     Refused(PfRefusal),

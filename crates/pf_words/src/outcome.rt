@@ -5,7 +5,7 @@ use text::bytes::same;
 use text::out::{Out, flush, one, tell, tell_visible, to};
 
 // Done, refused, or failed: a wrong call, or a file that cannot be read or written.
-#[derive(Drop)]
+#[derive(Clone, Copy)]
 pub enum Outcome {
     Done,
     Refused,

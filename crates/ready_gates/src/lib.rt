@@ -1,4 +1,6 @@
 // The rows that can be placed next: their slots, of two bytes each, are READY. Behind the slots stands a mark for each group of 64 rows; a group without mark has no such row.
+#![tactic(auto)]
+
 ghost use Rattle.std.specs.Prelude.{◌≡◌, ◌+◌, ◌*◌, ◌^◌, ◌<◌, ◌≤◌};
 ghost use Rattle.ready_gates.specs.ReadySlots.{first_ready, first_ready_from, group_end, ReadyRoom, ReadyMarked, SlotsKept, MadeReady};
 

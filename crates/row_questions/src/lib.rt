@@ -1,4 +1,6 @@
 // The questions of one row: 6, 7 and 9, its name, and what it adds to the counts.
+#![tactic(auto)]
+
 ghost use Rattle.std.specs.Prelude.{◌≡◌, ◌<◌, ◌≤◌, ◌/◌, take};
 ghost use Rattle.netlist.specs.Rows.{decode_row};
 ghost use Rattle.netlist.specs.FileFormat.{netlist_of};
@@ -14,7 +16,7 @@ use blockfile::{Fields, both};
 use netlist::MOST_PHASES;
 
 // What the tests of a row found, its name's slot, and what it adds to the tally.
-#[derive(Drop)]
+#[derive(Clone, Copy)]
 pub struct RowTests {
     pub kind: bool,
     pub fields: bool,

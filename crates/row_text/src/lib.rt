@@ -11,7 +11,7 @@ use text::numbers::number_at;
 pub const LARGE: u32 = 65536;
 
 // What is wrong with a line; of a word that is no number, where in the line it begins.
-#[derive(Drop)]
+#[derive(Clone, Copy)]
 pub enum Wrong {
     Word(usize),
     Count(usize),
@@ -23,7 +23,7 @@ pub enum Wrong {
 }
 
 // What a line says.
-#[derive(Drop)]
+#[derive(Clone, Copy)]
 enum Line {
     Nothing,
     Row,
@@ -31,7 +31,7 @@ enum Line {
 }
 
 // How many rows the text has; or the first wrong line, counted from 1, where it begins, and how many rows come before it.
-#[derive(Drop)]
+#[derive(Clone, Copy)]
 pub enum Text {
     Rows(usize),
     Wrong {
@@ -45,7 +45,7 @@ pub enum Text {
 // ---- a line
 
 // How many words a line has up to here, whether its last byte is part of one, and whether all are numbers; and where the last one begins, or the first that is no number.
-#[derive(Drop)]
+#[derive(Clone, Copy)]
 struct Words {
     count: usize,
     inside: bool,

@@ -1,4 +1,6 @@
 // The value of a row in a step of Run, and what a row starts as.
+#![tactic(auto)]
+
 ghost use Rattle.std.specs.Prelude.{◌≡◌, true, cond, ◌&&◌, ◌+◌, ◌-◌, ◌/◌, ◌<◌, ◌≤◌, length};
 ghost use Rattle.memory.specs.Fields.{byte_at, u16_at};
 ghost use Rattle.netlist.specs.Rows.{row_at, is_unknown};
@@ -10,7 +12,7 @@ ghost use Rattle.row_values.specs.Values.{IsBinary, bit, truth_at, bit_from, bit
 
 // Where a step has its bytes: its inputs from `base` on, the rows' values in memory from `current` on, and those of the last step from `previous` on.
 // In the initial step a register takes the byte that stands for its row from `previous` on, later what its literal showed in the last step.
-#[derive(Drop)]
+#[derive(Clone, Copy)]
 pub struct Step {
     pub base: usize,
     pub current: usize,

@@ -17,7 +17,7 @@ use run_answers::{RunAnswer, RunRefusal};
 use simulate::Sizes;
 
 // The rows, the nodes and the inputs of a netlist that is to be run, or why it is not.
-#[derive(Drop)]
+#[derive(Clone, Copy)]
 enum RunPlan {
     Go {
         rows: usize,

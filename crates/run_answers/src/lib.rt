@@ -5,7 +5,7 @@ ghost use Rattle.run_answers.specs.RunAnswers.{run_refusal_in};
 use accept::FileRefusal;
 
 // What a run is refused for; of a file, with its place.
-#[derive(Drop)]
+#[derive(Clone, Copy)]
 pub enum RunRefusal {
     File(FileRefusal),
     Steps,
@@ -39,7 +39,7 @@ pub fn place_of(refusal: RunRefusal) -> u32
     }
 }
 
-#[derive(Drop)]
+#[derive(Clone, Copy)]
 pub enum RunAnswer {
     Done,
     Refused(RunRefusal),

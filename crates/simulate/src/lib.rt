@@ -1,5 +1,7 @@
 // Run's steps: the rows' values in a step, and what the outputs show of them.
 // Work has room for the rows' values twice, from byte 0 on and from byte `rows` on. A step puts its own where those of the step before the last stood, and finds those of the last step beside them.
+#![tactic(auto)]
+
 ghost use Rattle.std.specs.Prelude.{◌≡◌, List, ◌++◌, map, ℕ, ◌+◌, ◌*◌, ◌≤◌, length, take, drop};
 ghost use Rattle.std.proofs.lemmas.List.Edits.{sets};
 ghost use Rattle.memory.specs.Lists.{count_if};
@@ -18,7 +20,7 @@ use blockfile::{BLOCK_BYTES, BLOCK_ROWS, FIRST_ROW, ROW_BYTES};
 use row_values::Step;
 
 // What a run goes by: the rows of the file, how many of them are nodes, and how many inputs.
-#[derive(Drop)]
+#[derive(Clone, Copy)]
 pub struct Sizes {
     pub rows: usize,
     pub nodes: usize,

@@ -28,7 +28,7 @@ fn sort_rows(file: &[u8], res: &mut [u8], work: &mut [u8], rows: usize) -> Sorti
 }
 
 // 1 to 10 and 23: how many rows are to be sorted, or why they are not.
-#[derive(Drop)]
+#[derive(Clone, Copy)]
 enum SortPlan {
     Go { rows: usize },
     Stop(SortRefusal),

@@ -5,7 +5,7 @@ ghost use Rattle.sort_answers.specs.SortAnswers.{sort_refusal_in};
 use accept::FileRefusal;
 
 // What a file is not sorted for; of a file, with its place.
-#[derive(Drop)]
+#[derive(Clone, Copy)]
 pub enum SortRefusal {
     File(FileRefusal),
     Memory,
@@ -34,7 +34,7 @@ pub fn place_of(refusal: SortRefusal) -> u32
 }
 
 // How many rows the sorted file has, or why there is none.
-#[derive(Drop)]
+#[derive(Clone, Copy)]
 pub enum Sorting {
     Done { rows: u32 },
     Refused(SortRefusal),

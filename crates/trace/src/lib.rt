@@ -15,7 +15,7 @@ use netlist::{FOLD_CLOCK_ENTRIES, MOST_GROUPS};
 use trace_answers::{TraceRefusal, Tracing};
 
 // The folded netlist's inputs, the original's X registers and its steps, of a trace that is to be made; or why it is not.
-#[derive(Drop)]
+#[derive(Clone, Copy)]
 enum TracePlan {
     Go {
         kept: usize,

@@ -5,7 +5,7 @@ ghost use Rattle.trace_answers.specs.TraceAnswers.{trace_refusal_in};
 use fold_refusals::FoldRefusal;
 
 // What a trace is refused for: what Fold refuses, 26, 27 and 28.
-#[derive(Drop)]
+#[derive(Clone, Copy)]
 pub enum TraceRefusal {
     Fold(FoldRefusal),
     Groups,
@@ -37,7 +37,7 @@ pub fn place_of(refusal: TraceRefusal) -> u32
 }
 
 // How many steps the trace has, or why there is none.
-#[derive(Drop)]
+#[derive(Clone, Copy)]
 pub enum Tracing {
     Done { steps: u32 },
     Refused(TraceRefusal),

@@ -1,5 +1,7 @@
 // Where the values of the original's inputs, or X registers, stand among those that the folded netlist is given, and these values as the original takes them.
 // A column is a place in the folded netlist's values, from 1 on, and 0 where the fold kept nothing. Columns stand as slots, for each phase one for each of the original's inputs, in row order; X registers have phase 0 alone.
+#![tactic(auto)]
+
 ghost use Rattle.std.specs.Prelude.{◌≡◌, true, ◌+◌, ◌*◌, ◌<◌, ◌≤◌, ◌^◌, length, replicate};
 ghost use Rattle.std.proofs.lemmas.List.Edits.{sets};
 ghost use Rattle.memory.specs.Lists.{count_if, join_below};
@@ -18,7 +20,7 @@ use blockfile::{Fields, both};
 pub const LABEL_BYTES: usize = 2016;
 
 // What a row is asked for: whether it is an X register, or an input; then its label and its phase.
-#[derive(Drop)]
+#[derive(Clone, Copy)]
 struct Name {
     wanted: bool,
     label: usize,
@@ -126,7 +128,7 @@ fn find_label(labels: &[u8], from: usize, count: usize, label: usize) -> usize
 }
 
 // The next column, and the slot after the one that was found last.
-#[derive(Drop)]
+#[derive(Clone, Copy)]
 struct Spot {
     column: usize,
     from: usize,

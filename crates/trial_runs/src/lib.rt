@@ -11,7 +11,7 @@ use trial_tally::tally::{add, hold};
 const MOST_STEPS: usize = 48;
 
 // A run of so many steps takes so many groups; it starts by so many choices, a step has so many inputs and outputs, a group so many others.
-#[derive(Drop)]
+#[derive(Clone, Copy)]
 pub struct Sizes {
     pub phases: usize,
     pub steps: usize,
@@ -326,7 +326,7 @@ pub fn sizes_of(file: &[u8], fold: &[u8], steps: usize, phases: usize) -> Sizes 
 }
 
 // Whether the run of the file is right, and that of the fold.
-#[derive(Drop)]
+#[derive(Clone, Copy)]
 struct Right {
     file: bool,
     fold: bool,

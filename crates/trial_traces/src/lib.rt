@@ -18,7 +18,7 @@ const BEHIND: usize = 16;
 const MOST_VALUES: usize = 500;
 
 // What is asked for, how many choices and input values are given, and what is lent.
-#[derive(Drop)]
+#[derive(Clone, Copy)]
 struct Asked {
     wish: u32,
     groups: u32,
@@ -31,7 +31,7 @@ struct Asked {
 }
 
 // What the request asks for: the fold's X registers and their number of the file; of inputs likewise.
-#[derive(Drop)]
+#[derive(Clone, Copy)]
 struct Counted {
     phases: usize,
     chosen: usize,

@@ -1,0 +1,21 @@
+-- `make_and` gives the image of the AND rule, way by way.
+-- Assumes nothing.
+-- Three ways lead to false.
+use mathlib.Core.Logic.{⊎_elim}
+use Rattle.gates.proofs.RuleWays.{and-first-false, and-second-false, and-complements, and-first-true, and-second-true, and-equal, and-new}
+use Rattle.gates.proofs.make_and.Goals as goal
+
+pub returns-then-a-eq0 : goal.returns-then-a-eq0
+returns-then-a-eq0 c = ⊎_elim (λ w. search and-first-false) (⊎_elim (λ w. search and-second-false) (λ w. search and-complements)) c.if-a-eq0.branch
+
+pub returns-then-a-eq1 : goal.returns-then-a-eq1
+returns-then-a-eq1 c = search and-first-true
+
+pub returns-then-b-eq1 : goal.returns-then-b-eq1
+returns-then-b-eq1 c = search and-second-true
+
+pub returns-then-a-b : goal.returns-then-a-b
+returns-then-a-b c = search and-equal
+
+pub returns : goal.returns
+returns c = search and-new
