@@ -3,7 +3,7 @@
 use Prim.Native.Nat.{ℕ, zero, suc, ◌+◌, ◌*◌, ◌<◌, ◌≤◌, ◌^◌}
 use mathlib.Core.Path.{◌≡◌, refl, sym, ap, ◌∙◌, subst}
 use mathlib.Core.Logic.{◌↔◌, ◌≢◌}
-use mathlib.Core.Bool.{true, false, cond, false≢true}
+use mathlib.Core.Bool.{true, cond, false≢true}
 use mathlib.Core.List.{List, [], ◌∷◌}
 use native.Mathlib.Omega.{arith}
 use native.Mathlib.Decide.{ℕ_discrete}
@@ -265,12 +265,13 @@ module _ (rows : List Row) (w : List ℕ) (T : HasSlots rows w) where
     -- ---- a walk that comes to an open row has met a loop: no open row is grounded
 
     module _ (x : ℕ) (N : Names rows row x) (A : Among x chain) where
-      next-open : (r : ℕ) (b : List ℕ) → Linked rows w (r ∷ b) → (z : ℕ) × (Names rows r z × Among z chain) → ((z : ℕ) → Among z b → Among z chain) → Among r chain → (y : ℕ) → Among y (r ∷ b) → (z : ℕ) × (Names rows y z × Among z chain)
-      next-open r b L n s m y here = n
-      next-open r (q ∷ b) L n s m y (there a) = next-open q b L.1.1 (r, (L.1.0, m)) (λ z k. s z (there k)) (s q here) y a
+      next-open : (y r : ℕ) (b : List ℕ) → Linked rows w (r ∷ b) → (z : ℕ) × (Names rows r z × Among z chain) → ((z : ℕ) → Among z b → Among z chain) → Among r chain → Among y (r ∷ b) → (z : ℕ) × (Names rows y z × Among z chain)
+      next-open y r b L n s m here = n
+      next-open y _ _ L n s m (there {j = j} {js = []} a) = elim a [ ]
+      next-open y r (q ∷ b) L n s m (there a) = next-open y q b L.1.1 (r, (L.1.0, m)) (λ z k. s z (there k)) (s q here) a
 
       named-open : (y : ℕ) → Among y chain → (z : ℕ) × (Names rows y z × Among z chain)
-      named-open = next-open row W.behind W.linked (x, (N, A)) (λ z. there) here
+      named-open y = next-open y row W.behind W.linked (x, (N, A)) (λ z. there) here
 
       pub ungrounded : (y : ℕ) → Grounded rows y → ¬ Among y chain
       ungrounded y (grounded y' f) a =

@@ -1,6 +1,6 @@
 -- Gates placed one after the other: what the slots say of the order so far, and after one gate more.
 -- Assumes nothing.
-use Prim.Native.Nat.{ℕ, zero, suc, ◌+◌, ◌<◌}
+use Prim.Native.Nat.{ℕ, ◌+◌, ◌<◌}
 use mathlib.Core.Path.{◌≡◌, refl, sym, ap, ◌∙◌, subst}
 use mathlib.Core.Bool.{Bool, true, false, cond, not, ◌&&◌, ◌||◌, false≢true, true≢false}
 use mathlib.Core.List.{List, [], ◌∷◌, ◌++◌}
@@ -9,7 +9,7 @@ use native.Mathlib.Decide.{ℕ_discrete}
 use lib.ListN.{length}
 use lib.Dec.{eqb, leb}
 use borrow.Author.Tests.{ne_eqb, le-leb}
-use Rattle.memory.specs.Lists.{first_from, Among}
+use Rattle.memory.specs.Lists.{Among}
 use Rattle.memory.specs.Slots.{slot_at}
 use Rattle.memory.proofs.TestLaws.{and-true, fails}
 use Rattle.netlist.specs.Rows.{Row, row_at}

@@ -1,5 +1,7 @@
 // Rows whose gates stand in any order, written as a file in an order that Check accepts.
 // Three passes: the first looks for a loop, in the slots alone; the second numbers the rows, and keeps in the result which gates name which node; the third writes the rows over that.
+#![tactic(auto)]
+
 ghost use Rattle.std.specs.Prelude.{◌≡◌, cond, ◌*◌, ◌<◌, ◌≤◌, length, ltb};
 ghost use Rattle.memory.specs.Lists.{first_from};
 ghost use Rattle.netlist.specs.Limits.{row_work_bytes};

@@ -1,4 +1,6 @@
 // What Sort answers, and what it promises (specs/SortOutcome.antt).
+#![tactic(auto)]
+
 ghost use Rattle.std.specs.Prelude.{◌≡◌};
 ghost use Rattle.sort_answers.specs.SortAnswers.{sort_refusal_in};
 

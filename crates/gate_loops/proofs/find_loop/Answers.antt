@@ -1,8 +1,7 @@
-use Prim.Native.Nat.{◌-◌}
-use mathlib.Core.Logic.{⊎_elim}
 use borrow.Author.Rules.{rules}
 use Rattle.gate_loops.proofs.SearchLaws.{search-starts, walk-ready, row-passed, row_settled, row-fails, all_pass}
 use Rattle.gate_loops.proofs.find_loop.Goals as goal
+use Rattle.gate_loops.proofs.find_loop.Goals.{then-slot_at-eq0+else-not-settle, else-slot_at-eq0}
 
 pub rows-init : goal.rows-init
 rows-init c = search search-starts
@@ -14,7 +13,7 @@ pub returns-then-not-settle : goal.returns-then-not-settle
 returns-then-not-settle c = record { value = search row-fails; slots_len_unchanged = search rules }
 
 pub rows-preserved : goal.rows-preserved
-rows-preserved c = ⊎_elim (λ w. search row_settled) (λ w. search row-passed) c.if-slot_at-eq0.branch
+rows-preserved c = elim c.if-slot_at-eq0.branch [ then-slot_at-eq0+else-not-settle w ↦ search row_settled | else-slot_at-eq0 w ↦ search row-passed ]
 
 pub returns : goal.returns
 returns c = record { value = search all_pass; slots_len_unchanged = search rules }

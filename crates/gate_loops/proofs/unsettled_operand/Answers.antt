@@ -1,4 +1,3 @@
-use Prim.Native.Nat.{◌-◌}
 use borrow.Author.Rules.{rules}
 use Rattle.gate_rows.proofs.RowLaws.{rows_all, row_inside}
 use Rattle.gate_loops.proofs.RowLaws.{node-room, node-unsettled, passed_none, passed-more, all-passed}

@@ -1,4 +1,3 @@
-use Prim.Native.Nat.{◌-◌}
 use borrow.Author.Rules.{rules}
 use Rattle.gate_numbers.proofs.WakingLaws.{marked-lowest}
 use Rattle.gate_numbers.proofs.SourceLaws.{none-marked, found_none, found-more, found_all}

@@ -1,4 +1,3 @@
-use Prim.Native.Nat.{◌-◌}
 use borrow.Author.Rules.{rules}
 use Rattle.gate_numbers.proofs.NumberLaws.{numbering-none, numbering-fits, numbering-more, numbering-done, numbering-count}
 use Rattle.gate_numbers.proofs.number_kinds.Goals as goal

@@ -8,7 +8,7 @@ pub place_gates-nodes-requires : goal.place_gates-nodes-requires
 place_gates-nodes-requires c = record { source = search rules; listed = search rules; placed = search rules; number_value = search rules }
 
 pub number_kinds-requires : goal.number_kinds-requires
-number_kinds-requires c = (search rules, (nodes-fit _ _ _ c.requires.0.0 _ _ c.place_gates-nodes.ensures, search rules))
+number_kinds-requires c = (search rules, (nodes-fit _ _ _ c.requires.source.0 _ _ c.place_gates-nodes.ensures, search rules))
 
 pub returns : goal.returns
 returns c = record { numbered = search all-numbered; users_len_unchanged = search rules }

@@ -1,4 +1,3 @@
-use Prim.Native.Nat.{◌-◌}
 use borrow.Author.Rules.{rules}
 use Rattle.gate_rows.proofs.RowLaws.{rows_all, row_inside}
 use Rattle.gate_numbers.proofs.WakingLaws.{operand-slot, placed-none, placed-more, one-unplaced, all_placed}

@@ -1,4 +1,3 @@
-use Prim.Native.Nat.{◌-◌}
 use borrow.Author.Rules.{rules}
 use Rattle.gate_numbers.proofs.RoundLaws.{rounds-none, full-count, full-placed, none-count, none-placed, round-gate, round-fits, round-next}
 use Rattle.gate_numbers.proofs.place_gates.Goals as goal

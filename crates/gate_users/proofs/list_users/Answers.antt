@@ -1,4 +1,3 @@
-use Prim.Native.Nat.{◌-◌}
 use borrow.Author.Rules.{rules}
 use Rattle.gate_users.proofs.ListedLaws.{part-long, cleared-room, cleared-same, cleared-listed, listed-all}
 use Rattle.gate_users.proofs.list_users.Goals as goal

@@ -1,4 +1,3 @@
-use Prim.Native.Nat.{◌-◌}
 use borrow.Author.Rules.{rules}
 use Rattle.gate_users.proofs.ListedLaws.{index_in, node-room, set-start, set_next, set-end}
 use Rattle.gate_users.proofs.set_heads.Goals as goal

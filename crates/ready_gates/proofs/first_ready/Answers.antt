@@ -1,4 +1,3 @@
-use Prim.Native.Nat.{◌-◌}
 use borrow.Author.Rules.{rules}
 use Rattle.ready_gates.proofs.ReadyLaws.{none_yet, none_more, first-at, first_past}
 use Rattle.ready_gates.proofs.first_ready.Goals as goal

@@ -1,4 +1,3 @@
-use Prim.Native.Nat.{◌-◌}
 use borrow.Author.Rules.{rules}
 use Rattle.ready_gates.proofs.ReadyLaws.{slots_same, mark-kept, passed-before, lowest-found, lowest-none, group-passed, group-unmarked, mark-cleared}
 use Rattle.ready_gates.proofs.lowest_from.Goals as goal
