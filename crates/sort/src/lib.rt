@@ -1,4 +1,6 @@
 // Sort: a file whose gates stand in any order, written in an order that Check accepts. Questions 1 to 10, where a gate may name any node, then 23 and 22.
+#![tactic(auto)]
+
 ghost use Rattle.std.specs.Prelude.{◌≡◌, ◌≤◌, length};
 ghost use Rattle.netlist.specs.Limits.{row_work_bytes};
 ghost use Rattle.netlist.specs.FileFormat.{netlist_of};
