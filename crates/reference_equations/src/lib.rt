@@ -1,5 +1,7 @@
 // The run of an AIGER text by its own equations: a value for each variable, in the order of the definitions, and gates
 // settled in turns until none is open.
+#![tactic(auto)]
+
 use reference_import::importing::{Heading, found, kind_of};
 use reference_lines::{cell, put_cell};
 use reference_rows::bytes::{after, byte, put_byte};

@@ -1,11 +1,13 @@
 // The second folder, written from the texts alone, to hold the product against. Nothing of the crates `reference_..` is shared with it.
+#![tactic(auto)]
+
 mod images;
 
 use reference_lasso::states::Lasso;
 use reference_questions::{Verdict, said};
 
 // A refusal, or number 0 and what Fold answers.
-#[derive(Drop)]
+#[derive(Clone, Copy)]
 pub struct Folded {
     pub number: u32,
     pub place: u32,
@@ -18,7 +20,7 @@ pub struct Folded {
 }
 
 // How many bytes of result and work and how many clock entries a caller lends.
-#[derive(Drop)]
+#[derive(Clone, Copy)]
 pub struct Lent {
     pub result: usize,
     pub work: usize,
@@ -87,7 +89,7 @@ fn short(x: usize) -> u32 {
 }
 
 // What is found in the three-valued run.
-#[derive(Drop)]
+#[derive(Clone, Copy)]
 struct Found {
     lasso: Lasso,
     phases: usize,

@@ -13,7 +13,7 @@ pub const TOO_LONG: u32 = 255;
 const LEAST_WORK: usize = 196608;
 
 // The header's numbers.
-#[derive(Drop)]
+#[derive(Clone, Copy)]
 pub struct Heading {
     pub maximum: u32,
     pub inputs: usize,
@@ -143,7 +143,7 @@ fn all_once(names: &[u32], nodes: usize) -> bool {
 }
 
 // The literals that a line uses; the constant where there are fewer than two.
-#[derive(Drop)]
+#[derive(Clone, Copy)]
 pub struct Uses {
     pub first: u32,
     pub second: u32,

@@ -5,7 +5,7 @@ use reference_rows::rows::{kind_at, put_row, row_at, rows_of, work_for};
 use reference_writing::cone::{moved, named_by};
 
 // A refusal, or number 0 and how many rows the sorted file has.
-#[derive(Drop)]
+#[derive(Clone, Copy)]
 pub struct Sorted {
     pub number: u32,
     pub place: u32,

@@ -62,7 +62,7 @@ fn put_entry(list: &mut [u32], entry: usize, label: u16, period: u16, bits: u16)
 }
 
 // A register's period, and its word if the period divides the phase count.
-#[derive(Drop)]
+#[derive(Clone, Copy)]
 struct Clock {
     at: usize,
     period: u16,

@@ -3,7 +3,7 @@ use reference_rows::bytes::{after, byte, put_byte, put_word, word};
 use reference_rows::rows::{Row, kind_at, row_at};
 use reference_rows::values::{gate_value, literal_value};
 
-#[derive(Drop)]
+#[derive(Clone, Copy)]
 pub struct Lasso {
     pub found: bool,
     pub stem: usize,

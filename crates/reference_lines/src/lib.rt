@@ -1,5 +1,7 @@
 // The lines of an ASCII AIGER text in a table of eight columns: how many numbers a line has, then up to five numbers; the
 // last two columns are for others. Line 0 is the header.
+#![tactic(auto)]
+
 use reference_rows::bytes::{after, byte, number, put_number};
 
 // ---- the table
@@ -89,7 +91,7 @@ fn put_line(text: &[u8], from: usize, end: usize, table: &mut [u32], line: usize
 // ---- the text
 
 // What is read of a text: nothing that is right, more lines than the table has room for, or so many.
-#[derive(Drop)]
+#[derive(Clone, Copy)]
 pub struct Lines {
     pub right: bool,
     pub fits: bool,

@@ -1,9 +1,11 @@
 // Questions 1 to 10 of the scope paper; where gates may stand in any order, a gate names any node.
+#![tactic(auto)]
+
 use reference_rows::bytes::{after, byte, field, number, put_number};
 use reference_rows::rows::{BLOCK_BOUND, MOST_BYTES, Row, kind_at, node_of, row_at, rows_of};
 
 // A refusal's number and place; number 0 is acceptance.
-#[derive(Drop)]
+#[derive(Clone, Copy)]
 pub struct Verdict {
     pub number: u32,
     pub place: u32,

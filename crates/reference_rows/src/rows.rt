@@ -13,7 +13,7 @@ const BYTE_BOUND: usize = 263168;
 
 pub const ROW_BOUND: usize = 32382;
 
-#[derive(Drop)]
+#[derive(Clone, Copy)]
 pub struct Row {
     pub kind: u8,
     pub reset: u8,

@@ -31,7 +31,7 @@ pub fn in_all(steps: usize, rows: usize) -> usize {
 }
 
 // What a caller lends.
-#[derive(Drop)]
+#[derive(Clone, Copy)]
 pub struct Memory {
     pub result: usize,
     pub work: usize,

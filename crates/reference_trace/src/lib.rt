@@ -1,4 +1,6 @@
 // Trace by the request's words: each value that the original's run needs is looked for among the fold's by its name, a label and a phase.
+#![tactic(auto)]
+
 use reference_fold::Lent;
 use reference_questions::{Verdict, said};
 use reference_rows::bytes::{after, byte, number, put_byte, put_number};
@@ -6,7 +8,7 @@ use reference_rows::rows::{Row, count_kind, length_of, row_at, rows_of};
 use reference_run::running::{all_bits, count_unknown, in_all};
 
 // A refusal, or number 0 and how many steps there are.
-#[derive(Drop)]
+#[derive(Clone, Copy)]
 pub struct Traced {
     pub number: u32,
     pub place: u32,

@@ -4,7 +4,7 @@ use reference_rows::bytes::{after, put_word, word};
 use reference_rows::rows::{Row, node_of};
 
 // The nodes that a row names; 0, which always stays, where it names fewer than three.
-#[derive(Drop)]
+#[derive(Clone, Copy)]
 pub struct Named {
     pub first: usize,
     pub second: usize,

@@ -5,7 +5,7 @@ use reference_rows::bytes::{after, put_word, word};
 use reference_rows::rows::Row;
 
 // A literal, and how many rows there are after it was made.
-#[derive(Drop)]
+#[derive(Clone, Copy)]
 pub struct Made {
     pub literal: u16,
     pub rows: usize,

@@ -9,7 +9,7 @@ const LAST: u8 = 2;
 const NOT_LAST: u8 = 1;
 
 // A row's kind, reset, a, b and c.
-#[derive(Drop)]
+#[derive(Clone, Copy)]
 struct Cells(u8, u8, u16, u16, u16);
 
 // The byte at which a row starts.

@@ -11,7 +11,7 @@ pub fn minus(x: usize, y: usize) -> usize {
 }
 
 // How many bytes of result and work are lent.
-#[derive(Drop)]
+#[derive(Clone, Copy)]
 pub struct Lent {
     pub result: usize,
     pub work: usize,
@@ -42,7 +42,7 @@ pub fn line_at<'a>(input: &'a [u8], start: usize) -> &'a [u8] {
 // ---- numbers
 
 // How many numbers there are, and whether the last goes on.
-#[derive(Drop)]
+#[derive(Clone, Copy)]
 struct Reading {
     count: usize,
     open: bool,
@@ -110,7 +110,7 @@ pub fn read_expected(line: &[u8], numbers: &mut [u32]) -> usize {
 }
 
 // How far a text is put: how many bytes, how many bytes of an escape are read, and what its digits say so far.
-#[derive(Drop)]
+#[derive(Clone, Copy)]
 struct Putting {
     size: usize,
     read: u8,

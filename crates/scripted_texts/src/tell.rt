@@ -1,7 +1,9 @@
 // How many agree, and which do not.
+use text::out::{print_decimal, write_all};
+use text::streams::Streams;
 
 // How many were tried, and how many agree.
-#[derive(Drop)]
+#[derive(Clone, Copy)]
 pub struct Tally {
     pub asked: u32,
     pub met: u32,
@@ -11,19 +13,19 @@ pub fn no_tally() -> Tally {
     Tally { asked: 0, met: 0 }
 }
 
-pub fn title(line: &[u8], tally: Tally) -> Tally {
-    io::write_all(1, line);
-    io::write_all(1, b"\n");
+pub fn title(rt: &impl Streams, line: &[u8], tally: Tally) -> Tally {
+    write_all(rt, 1, line);
+    write_all(rt, 1, b"\n");
     tally
 }
 
-fn print(words: &[u8], number: u32) {
-    io::write_all(1, words);
-    io::print_decimal(1, number as u64);
+fn print(rt: &impl Streams, words: &[u8], number: u32) {
+    write_all(rt, 1, words);
+    print_decimal(rt, 1, number as u64);
 }
 
 // Number and place of a refusal, 0 and 0 for none, and how many rows there are.
-#[derive(Drop)]
+#[derive(Clone, Copy)]
 pub struct Seen(pub u32, pub u32, pub u32);
 
 pub fn alike(x: Seen, y: Seen) -> bool {
@@ -33,20 +35,21 @@ pub fn alike(x: Seen, y: Seen) -> bool {
 }
 
 // One that does not agree is told with its line.
-fn tell(line: &[u8], who: &[u8], seen: Seen, answered: bool) {
-    io::write_all(1, line);
-    io::write_all(1, who);
-    print(b": ", seen.0);
-    print(b" ", seen.1);
-    print(b" ", seen.2);
+fn tell(rt: &impl Streams, line: &[u8], who: &[u8], seen: Seen, answered: bool) {
+    write_all(rt, 1, line);
+    write_all(rt, 1, who);
+    print(rt, b": ", seen.0);
+    print(rt, b" ", seen.1);
+    print(rt, b" ", seen.2);
     if answered {
-        io::write_all(1, b" and leaves the wrong bytes");
+        write_all(rt, 1, b" and leaves the wrong bytes");
     }
-    io::write_all(1, b"\n");
+    write_all(rt, 1, b"\n");
 }
 
 // One more: the answer, and whether result and work hold what they should.
 pub fn judge(
+    rt: &impl Streams,
     line: &[u8],
     who: &[u8],
     seen: Seen,
@@ -58,7 +61,7 @@ pub fn judge(
     let right = answered && left;
     let asked = std::num::wrapping_add_u32(tally.asked, 1);
     if !right {
-        tell(line, who, seen, answered);
+        tell(rt, line, who, seen, answered);
         return Tally {
             asked: asked,
             met: tally.met,
@@ -70,9 +73,9 @@ pub fn judge(
     }
 }
 
-pub fn total(tally: Tally) -> Tally {
-    print(b"", tally.met);
-    print(b" of ", tally.asked);
-    io::write_all(1, b" answers agree\n");
+pub fn total(rt: &impl Streams, tally: Tally) -> Tally {
+    print(rt, b"", tally.met);
+    print(rt, b" of ", tally.asked);
+    write_all(rt, 1, b" answers agree\n");
     no_tally()
 }

@@ -1,7 +1,10 @@
-// Numbers in decimal digits, read from bytes.
+// Numbers in digits, read from bytes and put there.
+ghost use Rattle.std.specs.Prelude.{◌≤◌};
+
+use crate::bytes::put;
 
 // A number that was read, or no number.
-#[derive(Drop)]
+#[derive(Clone, Copy)]
 pub enum Number {
     Is(u32),
     Not,
@@ -49,4 +52,41 @@ pub fn read(digits: &[u8]) -> Number {
         i += 1;
     }
     Number::Is(value)
+}
+
+// ---- digits that are put
+
+// The digit's byte.
+pub fn digit_byte(digit: u8) -> u8 {
+    let value = digit % 16;
+    if value < 10 {
+        b'0' + value
+    } else {
+        b'a' - 10 + value
+    }
+}
+
+// The last so many decimal digits of the number.
+fn put_digits(value: u64, count: usize, digits: &mut [u8]) {
+    let mut rest = value;
+    let mut at = count;
+    'digits: while at > 0 {
+        at -= 1;
+        put(digits, at, digit_byte((rest % 10) as u8));
+        rest /= 10;
+    }
+}
+
+// Puts the number's decimal digits at the start, and returns how many there are.
+pub fn decimal(value: u64, digits: &mut [u8; 20]) -> usize
+    ensures { result ≤ 20 }
+{
+    let mut count = 1;
+    let mut rest = value / 10;
+    'digits: while count < 20 && rest > 0 {
+        count += 1;
+        rest /= 10;
+    }
+    put_digits(value, count, digits);
+    count
 }

@@ -1,9 +1,11 @@
-// Output through a lent buffer, which is written to a descriptor when it is full and at the end.
-use crate::both;
+// Output through a lent buffer, which is written to a stream when it is full and at the end.
 use crate::bytes::least;
+use crate::numbers::{decimal, digit_byte};
+use crate::streams::Streams;
+use crate::{both, rooms};
 
 // Where output goes, how many bytes wait in the buffer, and whether every write went well.
-#[derive(Drop)]
+#[derive(Clone, Copy)]
 pub struct Out {
     pub fd: i32,
     pub waiting: usize,
@@ -19,11 +21,23 @@ pub fn to(fd: i32) -> Out {
     }
 }
 
+// These bytes are written at once; whether that went well.
+pub fn write_all(rt: &impl Streams, fd: i32, bytes: &[u8]) -> bool {
+    rt.write_to(fd, bytes)
+}
+
+// The number's decimal digits, written at once; whether that went well.
+pub fn print_decimal(rt: &impl Streams, fd: i32, value: u64) -> bool {
+    let mut digits = [0u8; 20];
+    let count = decimal(value, &mut digits);
+    rt.write_to(fd, &digits[..count])
+}
+
 // What waits is written.
-pub fn flush(buffer: &[u8], out: Out) -> Out {
+pub fn flush(rt: &impl Streams, buffer: &[u8], out: Out) -> Out {
     let end = least(out.waiting, buffer.len());
     let fd = out.fd;
-    let written = io::write_all(fd, &buffer[0..end]);
+    let written = rt.write_to(fd, &buffer[0..end]);
     Out {
         fd: fd,
         waiting: 0,
@@ -51,30 +65,30 @@ fn put_waiting(buffer: &mut [u8], out: Out, byte: u8) -> Out {
 }
 
 // One byte more; a full buffer is written first.
-pub fn put_byte(buffer: &mut [u8], out: Out, byte: u8) -> Out {
+pub fn put_byte(rt: &impl Streams, buffer: &mut [u8], out: Out, byte: u8) -> Out {
     if out.waiting < buffer.len() {
         return put_waiting(buffer, out, byte);
     }
-    let empty = flush(buffer, out);
+    let empty = flush(rt, buffer, out);
     put_waiting(buffer, empty, byte)
 }
 
 // All bytes of a text.
-pub fn put(buffer: &mut [u8], out: Out, text: &[u8]) -> Out {
+pub fn put(rt: &impl Streams, buffer: &mut [u8], out: Out, text: &[u8]) -> Out {
     let mut now = out;
     let mut i = 0;
     'bytes: while i < text.len() {
-        now = put_byte(&mut *buffer, now, text[i]);
+        now = put_byte(rt, &mut *buffer, now, text[i]);
         i += 1;
     }
     now
 }
 
 // A number in decimal digits.
-pub fn put_number(buffer: &mut [u8], out: Out, value: usize) -> Out {
+pub fn put_number(rt: &impl Streams, buffer: &mut [u8], out: Out, value: usize) -> Out {
     let mut digits = [0u8; 20];
-    let count = io::decimal(value as u64, &mut digits);
-    put(buffer, out, &digits[..count])
+    let count = decimal(value as u64, &mut digits);
+    put(rt, buffer, out, &digits[..count])
 }
 
 // ---- sentences with numbers
@@ -102,11 +116,11 @@ fn next_number(numbers: [usize; 6], at: usize) -> usize {
 }
 
 // A byte of a sentence, or the number that # stands for.
-fn put_filled_byte(buffer: &mut [u8], out: Out, byte: u8, number: usize) -> Out {
+fn put_filled_byte(rt: &impl Streams, buffer: &mut [u8], out: Out, byte: u8, number: usize) -> Out {
     if byte == b'#' {
-        put_number(buffer, out, number)
+        put_number(rt, buffer, out, number)
     } else {
-        put_byte(buffer, out, byte)
+        put_byte(rt, buffer, out, byte)
     }
 }
 
@@ -120,14 +134,20 @@ fn count_filled(count: usize, byte: u8) -> usize {
 }
 
 // A sentence, each # replaced by the next of its numbers.
-pub fn put_filled(buffer: &mut [u8], out: Out, sentence: &[u8], numbers: [usize; 6]) -> Out {
+pub fn put_filled(
+    rt: &impl Streams,
+    buffer: &mut [u8],
+    out: Out,
+    sentence: &[u8],
+    numbers: [usize; 6],
+) -> Out {
     let mut now = out;
     let mut count = 0;
     let mut i = 0;
     'bytes: while i < sentence.len() {
         let byte = sentence[i];
         let number = next_number(numbers, count);
-        now = put_filled_byte(&mut *buffer, now, byte, number);
+        now = put_filled_byte(rt, &mut *buffer, now, byte, number);
         count = count_filled(count, byte);
         i += 1;
     }
@@ -135,28 +155,27 @@ pub fn put_filled(buffer: &mut [u8], out: Out, sentence: &[u8], numbers: [usize;
 }
 
 // The same written at once; whether that went well.
-pub fn tell(fd: i32, sentence: &[u8], numbers: [usize; 6]) -> bool {
-    let mut room = io::buffer();
-    let out = put_filled(&mut room, to(fd), sentence, numbers);
-    let empty = flush(&room, out);
+pub fn tell(rt: &impl Streams, fd: i32, sentence: &[u8], numbers: [usize; 6]) -> bool {
+    let mut room = rooms::buffer();
+    let out = put_filled(rt, &mut room, to(fd), sentence, numbers);
+    let empty = flush(rt, &room, out);
     empty.right
 }
 
 // ---- bytes
 
 // A byte as two hexadecimal digits.
-pub fn put_hex(buffer: &mut [u8], out: Out, byte: u8) -> Out {
-    let mut digits = [0u8; 16];
-    let count = io::hex(byte as u64, 2, &mut digits);
-    put(buffer, out, &digits[..count])
+pub fn put_hex(rt: &impl Streams, buffer: &mut [u8], out: Out, byte: u8) -> Out {
+    let high = put_byte(rt, &mut *buffer, out, digit_byte(byte / 16));
+    put_byte(rt, buffer, high, digit_byte(byte % 16))
 }
 
 // This many blanks.
-pub fn pad(buffer: &mut [u8], out: Out, count: usize) -> Out {
+pub fn pad(rt: &impl Streams, buffer: &mut [u8], out: Out, count: usize) -> Out {
     let mut now = out;
     let mut i = 0;
     'blanks: while i < count {
-        now = put_byte(&mut *buffer, now, b' ');
+        now = put_byte(rt, &mut *buffer, now, b' ');
         i += 1;
     }
     now
@@ -173,20 +192,20 @@ fn visible(byte: u8) -> u8 {
 }
 
 // A word, of which every byte can be seen.
-fn put_visible(buffer: &mut [u8], out: Out, word: &[u8]) -> Out {
+fn put_visible(rt: &impl Streams, buffer: &mut [u8], out: Out, word: &[u8]) -> Out {
     let mut now = out;
     let mut i = 0;
     'bytes: while i < word.len() {
-        now = put_byte(&mut *buffer, now, visible(word[i]));
+        now = put_byte(rt, &mut *buffer, now, visible(word[i]));
         i += 1;
     }
     now
 }
 
 // The same written at once; whether that went well.
-pub fn tell_visible(fd: i32, word: &[u8]) -> bool {
-    let mut room = io::buffer();
-    let out = put_visible(&mut room, to(fd), word);
-    let empty = flush(&room, out);
+pub fn tell_visible(rt: &impl Streams, fd: i32, word: &[u8]) -> bool {
+    let mut room = rooms::buffer();
+    let out = put_visible(rt, &mut room, to(fd), word);
+    let empty = flush(rt, &room, out);
     empty.right
 }

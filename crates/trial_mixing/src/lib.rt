@@ -1,4 +1,6 @@
 // Netlists whose nodes stand in any order, made of those that stand in order.
+#![tactic(auto)]
+
 use reference_rows::rows::{count_kind, row_at, rows_of};
 use trial_pieces::dice::{any_literal, chance, roll, roll_from};
 use trial_pieces::pieces::{cells, get_word, plus, put_word};

@@ -4,7 +4,7 @@ use trial_pieces::pieces::plus;
 
 // What a netlist is like: how many nodes there are at least, at most how many outputs, how many gates for 16 pieces, whether
 // its lasso may be long, and up to how many registers and rows it is filled.
-#[derive(Drop)]
+#[derive(Clone, Copy)]
 pub struct Style {
     pub nodes: usize,
     pub outputs: usize,
@@ -179,7 +179,7 @@ fn past_limits(seed: &mut u64) -> Style {
     }
 }
 
-#[derive(Drop)]
+#[derive(Clone, Copy)]
 pub enum Size {
     Small,
     Large,

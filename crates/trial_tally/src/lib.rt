@@ -1,3 +1,5 @@
 // What is counted and printed, and the memories of the trials.
+#![tactic(auto)]
+
 pub mod rooms;
 pub mod tally;

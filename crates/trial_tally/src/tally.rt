@@ -1,7 +1,8 @@
 // Counts of what was tried and what was found.
 ghost use Rattle.std.specs.Prelude.{◌≡◌, length};
 
-use text::out::tell;
+use text::out::{print_decimal, tell, write_all};
+use text::streams::Streams;
 
 // Folds by number: 0 for those done, else the refusal's. The other counts stand after them.
 pub const FILES: usize = 24;
@@ -176,9 +177,9 @@ pub fn take_differences(own: &[u64], tally: &mut [u64]) {
     take(own, CHECKS, SLOTS - CHECKS, tally, CHECKS);
 }
 
-pub fn print(text: &[u8], number: u64) {
-    io::write_all(1, text);
-    io::print_decimal(1, number);
+pub fn print(rt: &impl Streams, text: &[u8], number: u64) {
+    write_all(rt, 1, text);
+    print_decimal(rt, 1, number);
 }
 
 // One more, if that holds.
@@ -206,121 +207,124 @@ pub fn differences(tally: &[u64]) -> u64 {
     sum_of(tally, CHECKS, SLOTS)
 }
 
-fn print_count(tally: &[u64], text: &[u8], at: usize) {
-    print(text, count(tally, at));
+fn print_count(rt: &impl Streams, tally: &[u64], text: &[u8], at: usize) {
+    print(rt, text, count(tally, at));
 }
 
 // The refusals with numbers from `start` on and before `end`; those of number 0 are counted at `base`.
-fn print_refusals(tally: &[u64], base: usize, start: usize, end: usize) {
+fn print_refusals(rt: &impl Streams, tally: &[u64], base: usize, start: usize, end: usize) {
     'numbers: for number in start..end {
         let at = std::num::wrapping_add_usize(base, number);
-        print(b"  refused ", number as u64);
-        print(b": ", count(tally, at));
-        io::write_all(1, b"\n");
+        print(rt, b"  refused ", number as u64);
+        print(rt, b": ", count(tally, at));
+        write_all(rt, 1, b"\n");
     }
 }
 
-fn print_files(tally: &[u64]) {
-    print_count(tally, b"files ", FILES);
-    print_count(tally, b"\n  counted: ", COUNTED);
-    print_count(tally, b"\n  shown a block: ", SHOWN);
-    print_count(tally, b"\n  refused 21: ", PAST_END);
+fn print_files(rt: &impl Streams, tally: &[u64]) {
+    print_count(rt, tally, b"files ", FILES);
+    print_count(rt, tally, b"\n  counted: ", COUNTED);
+    print_count(rt, tally, b"\n  shown a block: ", SHOWN);
+    print_count(rt, tally, b"\n  refused 21: ", PAST_END);
 }
 
-fn print_folds(tally: &[u64]) {
-    print_count(tally, b"\nfolds ", FOLDS);
-    print_count(tally, b"\n  done: ", 0);
-    io::write_all(1, b"\n");
-    print_refusals(tally, 0, 1, 17);
+fn print_folds(rt: &impl Streams, tally: &[u64]) {
+    print_count(rt, tally, b"\nfolds ", FOLDS);
+    print_count(rt, tally, b"\n  done: ", 0);
+    write_all(rt, 1, b"\n");
+    print_refusals(rt, tally, 0, 1, 17);
 }
 
-fn print_runs(tally: &[u64]) {
-    print_count(tally, b"clock entries compared ", CLOCKS);
-    print_count(tally, b"\nruns of file and fold side by side ", RUNS);
-    print_count(tally, b"\nsteps compared ", STEPS);
+fn print_runs(rt: &impl Streams, tally: &[u64]) {
+    print_count(rt, tally, b"clock entries compared ", CLOCKS);
+    print_count(rt, tally, b"\nruns of file and fold side by side ", RUNS);
+    print_count(rt, tally, b"\nsteps compared ", STEPS);
 }
 
-fn print_sorts(tally: &[u64]) {
-    print_count(tally, b"\nsorts ", ALL_SORTS);
-    print_count(tally, b"\n  done: ", SORTS);
-    io::write_all(1, b"\n");
-    print_refusals(tally, SORTS, 1, 11);
-    print_refusals(tally, SORTS, 22, 24);
-    print_count(tally, b"runs of file and sorted file ", SORTED_RUNS);
-    print_count(tally, b"\nsteps compared ", SORTED_STEPS);
+fn print_sorts(rt: &impl Streams, tally: &[u64]) {
+    print_count(rt, tally, b"\nsorts ", ALL_SORTS);
+    print_count(rt, tally, b"\n  done: ", SORTS);
+    write_all(rt, 1, b"\n");
+    print_refusals(rt, tally, SORTS, 1, 11);
+    print_refusals(rt, tally, SORTS, 22, 24);
+    print_count(rt, tally, b"runs of file and sorted file ", SORTED_RUNS);
+    print_count(rt, tally, b"\nsteps compared ", SORTED_STEPS);
 }
 
-fn print_imports(tally: &[u64]) {
-    print_count(tally, b"\nimports ", ALL_IMPORTS);
-    print_count(tally, b"\n  done: ", IMPORTS);
-    io::write_all(1, b"\n");
-    print_refusals(tally, IMPORTS, 22, 25);
-    print_count(tally, b"runs of text and imported file ", IMPORTED_RUNS);
-    print_count(tally, b"\nsteps compared ", IMPORTED_STEPS);
-    print_count(tally, b"\nimported files folded ", IMPORTS_FOLDED);
+fn print_imports(rt: &impl Streams, tally: &[u64]) {
+    print_count(rt, tally, b"\nimports ", ALL_IMPORTS);
+    print_count(rt, tally, b"\n  done: ", IMPORTS);
+    write_all(rt, 1, b"\n");
+    print_refusals(rt, tally, IMPORTS, 22, 25);
+    print_count(rt, tally, b"runs of text and imported file ", IMPORTED_RUNS);
+    print_count(rt, tally, b"\nsteps compared ", IMPORTED_STEPS);
+    print_count(rt, tally, b"\nimported files folded ", IMPORTS_FOLDED);
 }
 
 // The counts from `start` on and before `end` together.
-fn print_sum(tally: &[u64], text: &[u8], start: usize, end: usize) {
-    print(text, sum_of(tally, start, end));
+fn print_sum(rt: &impl Streams, tally: &[u64], text: &[u8], start: usize, end: usize) {
+    print(rt, text, sum_of(tally, start, end));
 }
 
-fn print_long_imports(tally: &[u64]) {
-    print_sum(tally, b"\nimports of long texts ", LONG_IMPORTS, TRACES);
-    print_count(tally, b"\n  done: ", LONG_IMPORTS);
-    io::write_all(1, b"\n");
-    print_refusals(tally, LONG_IMPORTS, 22, 26);
+fn print_long_imports(rt: &impl Streams, tally: &[u64]) {
+    print_sum(rt, tally, b"\nimports of long texts ", LONG_IMPORTS, TRACES);
+    print_count(rt, tally, b"\n  done: ", LONG_IMPORTS);
+    write_all(rt, 1, b"\n");
+    print_refusals(rt, tally, LONG_IMPORTS, 22, 26);
 }
 
-fn print_long_files(tally: &[u64]) {
-    print_sum(tally, b"long files ", LONGS, LONG_SHOWN);
-    print_count(tally, b"\n  counted: ", LONGS);
-    print_count(tally, b"\n  refused 1: ", LONGS + 1);
-    print_count(tally, b"\n  blocks shown: ", LONG_SHOWN);
-    print_count(tally, b"\n  refused 21: ", LONG_PAST_END);
-    print_sum(tally, b"\nfolds of long files ", LONG_FOLDS, LONG_SORTS);
-    print_count(tally, b"\n  refused 1: ", LONG_FOLDS + 1);
-    print_count(tally, b"\n  refused 11: ", LONG_FOLDS + 11);
+fn print_long_files(rt: &impl Streams, tally: &[u64]) {
+    print_sum(rt, tally, b"long files ", LONGS, LONG_SHOWN);
+    print_count(rt, tally, b"\n  counted: ", LONGS);
+    print_count(rt, tally, b"\n  refused 1: ", LONGS + 1);
+    print_count(rt, tally, b"\n  blocks shown: ", LONG_SHOWN);
+    print_count(rt, tally, b"\n  refused 21: ", LONG_PAST_END);
+    print_sum(rt, tally, b"\nfolds of long files ", LONG_FOLDS, LONG_SORTS);
+    print_count(rt, tally, b"\n  refused 1: ", LONG_FOLDS + 1);
+    print_count(rt, tally, b"\n  refused 11: ", LONG_FOLDS + 11);
 }
 
-fn print_long_sorts(tally: &[u64]) {
-    print_sum(tally, b"\nsorts of long files ", LONG_SORTS, HEADS);
-    print_count(tally, b"\n  done: ", LONG_SORTS);
-    print_count(tally, b"\n  refused 22: ", LONG_SORTS + 22);
+fn print_long_sorts(rt: &impl Streams, tally: &[u64]) {
+    print_sum(rt, tally, b"\nsorts of long files ", LONG_SORTS, HEADS);
+    print_count(rt, tally, b"\n  done: ", LONG_SORTS);
+    print_count(rt, tally, b"\n  refused 22: ", LONG_SORTS + 22);
     print_sum(
+        rt,
         tally,
         b"\n  refused 1 to 10: ",
         LONG_SORTS + 1,
         LONG_SORTS + 11,
     );
-    print_count(tally, b"\n  refused 23: ", LONG_SORTS + 23);
+    print_count(rt, tally, b"\n  refused 23: ", LONG_SORTS + 23);
 }
 
-fn print_damaged(tally: &[u64]) {
-    print_sum(tally, b"\nheads changed ", HEADS, EXCHANGES);
-    print_count(tally, b"\n  accepted: ", HEADS);
-    print_count(tally, b"\n  refused 3: ", HEADS + 3);
-    print_sum(tally, b"\nblocks exchanged ", EXCHANGES, WORK_RUNS);
-    print_count(tally, b"\n  refused 3: ", EXCHANGES + 3);
+fn print_damaged(rt: &impl Streams, tally: &[u64]) {
+    print_sum(rt, tally, b"\nheads changed ", HEADS, EXCHANGES);
+    print_count(rt, tally, b"\n  accepted: ", HEADS);
+    print_count(rt, tally, b"\n  refused 3: ", HEADS + 3);
+    print_sum(rt, tally, b"\nblocks exchanged ", EXCHANGES, WORK_RUNS);
+    print_count(rt, tally, b"\n  refused 3: ", EXCHANGES + 3);
 }
 
-fn print_works(tally: &[u64]) {
+fn print_works(rt: &impl Streams, tally: &[u64]) {
     print_sum(
+        rt,
         tally,
         b"\nruns with work of four lengths ",
         WORK_RUNS,
         WORK_SORTS,
     );
-    print_count(tally, b"\n  done: ", WORK_RUNS);
-    print_count(tally, b"\n  refused 20: ", WORK_RUNS + 20);
+    print_count(rt, tally, b"\n  done: ", WORK_RUNS);
+    print_count(rt, tally, b"\n  refused 20: ", WORK_RUNS + 20);
     print_sum(
+        rt,
         tally,
         b"\nsorts with work of four lengths ",
         WORK_SORTS,
         LONG_IMPORTS,
     );
-    print_count(tally, b"\n  done: ", WORK_SORTS);
-    print_count(tally, b"\n  refused 23: ", WORK_SORTS + 23);
+    print_count(rt, tally, b"\n  done: ", WORK_SORTS);
+    print_count(rt, tally, b"\n  refused 23: ", WORK_SORTS + 23);
 }
 
 // Numbers as they stand in the tally from `at` on.
@@ -336,14 +340,15 @@ fn six(tally: &[u64], at: usize) -> [usize; 6] {
     ]
 }
 
-fn print_traces(tally: &[u64]) {
-    print_sum(tally, b"\ntraces ", TRACES, TRACED_STEPS);
-    print_count(tally, b"\n  done: ", TRACES);
-    print_sum(tally, b"\n  refused 1 to 10: ", TRACES + 1, TRACES + 11);
-    io::write_all(1, b"\n");
-    print_refusals(tally, TRACES, 11, 17);
-    print_refusals(tally, TRACES, 26, 29);
+fn print_traces(rt: &impl Streams, tally: &[u64]) {
+    print_sum(rt, tally, b"\ntraces ", TRACES, TRACED_STEPS);
+    print_count(rt, tally, b"\n  done: ", TRACES);
+    print_sum(rt, tally, b"\n  refused 1 to 10: ", TRACES + 1, TRACES + 11);
+    write_all(rt, 1, b"\n");
+    print_refusals(rt, tally, TRACES, 11, 17);
+    print_refusals(rt, tally, TRACES, 26, 29);
     tell(
+        rt,
         1,
         b"steps compared #\n  inputs not kept: #\n  choices not kept: #\n",
         six(tally, TRACED_STEPS),
@@ -351,110 +356,139 @@ fn print_traces(tally: &[u64]) {
 }
 
 // Those done, and those refused just over a limit.
-fn print_trace_limits(tally: &[u64]) {
+fn print_trace_limits(rt: &impl Streams, tally: &[u64]) {
     tell(
+        rt,
         1,
         b"  done with 1 group: #, with 512: #; refused with none: #, with 513: #; ",
         six(tally, TRACE_LIMITS),
     );
     tell(
+        rt,
         1,
         b"done up to phase 0: #, up to N - 1: #; refused up to N: #\n",
         six(tally, TRACE_LIMITS + 4),
     );
     tell(
+        rt,
         1,
         b"  refused with a choice more: #, less: #, a value more: #, less: #, one above 1: #\n",
         six(tally, TRACE_LIMITS + 7),
     );
     tell(
+        rt,
         1,
         b"  done in as much memory as is asked for: #; refused a byte less: #",
         six(tally, TRACE_LIMITS + 12),
     );
 }
 
-fn print_file_differences(tally: &[u64]) {
-    print(b"\ndifferences ", differences(tally));
-    print_count(tally, b"\n  in Check: ", CHECKS);
-    print_count(tally, b"\n  in Count: ", COUNTS);
-    print_count(tally, b"\n  in Show: ", SHOWS);
+fn print_file_differences(rt: &impl Streams, tally: &[u64]) {
+    print(rt, b"\ndifferences ", differences(tally));
+    print_count(rt, tally, b"\n  in Check: ", CHECKS);
+    print_count(rt, tally, b"\n  in Count: ", COUNTS);
+    print_count(rt, tally, b"\n  in Show: ", SHOWS);
 }
 
-fn print_fold_differences(tally: &[u64]) {
-    print_count(tally, b"\n  in Fold's answer: ", ANSWERS);
-    print_count(tally, b"\n  in the result's bytes: ", RESULTS);
-    print_count(tally, b"\n  in the clock entries: ", ENTRIES);
+fn print_fold_differences(rt: &impl Streams, tally: &[u64]) {
+    print_count(rt, tally, b"\n  in Fold's answer: ", ANSWERS);
+    print_count(rt, tally, b"\n  in the result's bytes: ", RESULTS);
+    print_count(rt, tally, b"\n  in the clock entries: ", ENTRIES);
 }
 
-fn print_run_differences(tally: &[u64]) {
-    print_count(tally, b"\n  in runs of the file, by both: ", FILE_RUNS);
+fn print_run_differences(rt: &impl Streams, tally: &[u64]) {
+    print_count(rt, tally, b"\n  in runs of the file, by both: ", FILE_RUNS);
     print_count(
+        rt,
         tally,
         b"\n  in runs of the fold, beside the file: ",
         FOLD_RUNS,
     );
-    print_count(tally, b"\n  in Run's answer: ", RUN_ANSWERS);
-    print_count(tally, b"\n  in what Run shows: ", RUN_RESULTS);
-    print_count(tally, b"\n  in work after Run: ", RUN_WORKS);
+    print_count(rt, tally, b"\n  in Run's answer: ", RUN_ANSWERS);
+    print_count(rt, tally, b"\n  in what Run shows: ", RUN_RESULTS);
+    print_count(rt, tally, b"\n  in work after Run: ", RUN_WORKS);
 }
 
-fn print_sort_differences(tally: &[u64]) {
-    print_count(tally, b"\n  in Sort's answer: ", SORT_ANSWERS);
-    print_count(tally, b"\n  in the sorted file's bytes: ", SORT_RESULTS);
-    print_count(tally, b"\n  in work after Sort: ", SORT_WORKS);
-    print_count(tally, b"\n  in Check of the sorted file: ", UNACCEPTED);
-    print_count(tally, b"\n  in the sorted file sorted again: ", UNSTABLE);
+fn print_sort_differences(rt: &impl Streams, tally: &[u64]) {
+    print_count(rt, tally, b"\n  in Sort's answer: ", SORT_ANSWERS);
+    print_count(rt, tally, b"\n  in the sorted file's bytes: ", SORT_RESULTS);
+    print_count(rt, tally, b"\n  in work after Sort: ", SORT_WORKS);
+    print_count(rt, tally, b"\n  in Check of the sorted file: ", UNACCEPTED);
     print_count(
+        rt,
+        tally,
+        b"\n  in the sorted file sorted again: ",
+        UNSTABLE,
+    );
+    print_count(
+        rt,
         tally,
         b"\n  in runs of the sorted file, beside the file: ",
         SORT_RUNS,
     );
 }
 
-fn print_import_differences(tally: &[u64]) {
-    print_count(tally, b"\n  in Import's answer: ", IMPORT_ANSWERS);
-    print_count(tally, b"\n  in the imported file's bytes: ", IMPORT_RESULTS);
-    print_count(tally, b"\n  in work after Import: ", IMPORT_WORKS);
+fn print_import_differences(rt: &impl Streams, tally: &[u64]) {
+    print_count(rt, tally, b"\n  in Import's answer: ", IMPORT_ANSWERS);
     print_count(
+        rt,
+        tally,
+        b"\n  in the imported file's bytes: ",
+        IMPORT_RESULTS,
+    );
+    print_count(rt, tally, b"\n  in work after Import: ", IMPORT_WORKS);
+    print_count(
+        rt,
         tally,
         b"\n  in Check of the imported file: ",
         IMPORT_UNACCEPTED,
     );
-    print_count(tally, b"\n  in the imported file sorted: ", IMPORT_UNSTABLE);
     print_count(
+        rt,
+        tally,
+        b"\n  in the imported file sorted: ",
+        IMPORT_UNSTABLE,
+    );
+    print_count(
+        rt,
         tally,
         b"\n  in runs of the imported file, beside the text: ",
         IMPORT_RUNS,
     );
-    print_count(tally, b"\n  in folds of the imported file: ", IMPORT_FOLDS);
+    print_count(
+        rt,
+        tally,
+        b"\n  in folds of the imported file: ",
+        IMPORT_FOLDS,
+    );
 }
 
-fn print_trace_differences(tally: &[u64]) {
+fn print_trace_differences(rt: &impl Streams, tally: &[u64]) {
     tell(
+        rt,
         1,
         b"\n  in Trace's answer: #\n  in its trace: #\n  in its result: #\n  in its work: #\n  in runs of the file on the trace, beside the fold: #\n",
         six(tally, TRACE_ANSWERS),
     );
 }
 
-pub fn print_all(tally: &[u64]) {
-    print_files(tally);
-    print_folds(tally);
-    print_runs(tally);
-    print_sorts(tally);
-    print_imports(tally);
-    print_long_imports(tally);
-    print_long_files(tally);
-    print_long_sorts(tally);
-    print_damaged(tally);
-    print_works(tally);
-    print_traces(tally);
-    print_trace_limits(tally);
-    print_file_differences(tally);
-    print_fold_differences(tally);
-    print_run_differences(tally);
-    print_sort_differences(tally);
-    print_import_differences(tally);
-    print_trace_differences(tally);
+pub fn print_all(rt: &impl Streams, tally: &[u64]) {
+    print_files(rt, tally);
+    print_folds(rt, tally);
+    print_runs(rt, tally);
+    print_sorts(rt, tally);
+    print_imports(rt, tally);
+    print_long_imports(rt, tally);
+    print_long_files(rt, tally);
+    print_long_sorts(rt, tally);
+    print_damaged(rt, tally);
+    print_works(rt, tally);
+    print_traces(rt, tally);
+    print_trace_limits(rt, tally);
+    print_file_differences(rt, tally);
+    print_fold_differences(rt, tally);
+    print_run_differences(rt, tally);
+    print_sort_differences(rt, tally);
+    print_import_differences(rt, tally);
+    print_trace_differences(rt, tally);
 }

@@ -1,6 +1,9 @@
 // ASCII AIGER texts by chance: how many lines of each section, what the lines are, and damage done to them.
+#![tactic(auto)]
+
 use text::numbers::number_at;
 use text::out::{Out, one, put_filled, three, two};
+use text::streams::Nowhere;
 use trial_pieces::dice::{chance, roll, roll_from};
 use trial_pieces::pieces::plus;
 use trial_uses::{
@@ -25,7 +28,7 @@ fn put_inputs(plan: Plan, names: &[u32], text: &mut [u8], out: Out) -> Out {
     let end = plan.inputs;
     'inputs: for at in 0..end {
         let name = number_at(names, plus(at, 1)) as usize;
-        now = put_filled(text, now, b"#\n", one(name));
+        now = put_filled(&Nowhere, text, now, b"#\n", one(name));
     }
     now
 }
@@ -43,13 +46,13 @@ fn put_latch(
     let low = plus(2, roll(seed, 2));
     let other = if chance(seed, 2) { near } else { low };
     if wrong {
-        return put_filled(text, out, b"# # #\n", three(name, next, other));
+        return put_filled(&Nowhere, text, out, b"# # #\n", three(name, next, other));
     }
     match roll(seed, 4) {
-        0 => put_filled(text, out, b"# #\n", two(name, next)),
-        1 => put_filled(text, out, b"# # #\n", three(name, next, 0)),
-        2 => put_filled(text, out, b"# # #\n", three(name, next, 1)),
-        _ => put_filled(text, out, b"# # #\n", three(name, next, name)),
+        0 => put_filled(&Nowhere, text, out, b"# #\n", two(name, next)),
+        1 => put_filled(&Nowhere, text, out, b"# # #\n", three(name, next, 0)),
+        2 => put_filled(&Nowhere, text, out, b"# # #\n", three(name, next, 1)),
+        _ => put_filled(&Nowhere, text, out, b"# # #\n", three(name, next, name)),
     }
 }
 
@@ -87,7 +90,7 @@ fn put_outputs(
     let end = rows_of(plan);
     'outputs: for row in from..end {
         let shown = literal_of(names, number_at(uses, twice(row)), stranger);
-        now = put_filled(text, now, b"#\n", one(shown));
+        now = put_filled(&Nowhere, text, now, b"#\n", one(shown));
     }
     now
 }
@@ -107,7 +110,7 @@ fn put_gates(
         let name = number_at(names, row) as usize;
         let first = literal_of(names, number_at(uses, twice(row)), stranger);
         let second = literal_of(names, number_at(uses, plus(twice(row), 1)), stranger);
-        now = put_filled(text, now, b"# # #\n", three(name, first, second));
+        now = put_filled(&Nowhere, text, now, b"# # #\n", three(name, first, second));
     }
     now
 }
@@ -117,14 +120,21 @@ fn put_rest(seed: &mut u64, text: &mut [u8], out: Out) -> Out {
     let number = roll(seed, 100);
     match roll(seed, 6) {
         0 => put_filled(
+            &Nowhere,
             text,
             out,
             b"i0 a\no0 b\nc\nmade by hand\n",
             text::out::none(),
         ),
-        1 => put_filled(text, out, b"#\n# # #\n", three(number, number, number)),
-        2 => put_filled(text, out, b"\xff\x00\r #", one(number)),
-        3 => put_filled(text, out, b"c", text::out::none()),
+        1 => put_filled(
+            &Nowhere,
+            text,
+            out,
+            b"#\n# # #\n",
+            three(number, number, number),
+        ),
+        2 => put_filled(&Nowhere, text, out, b"\xff\x00\r #", one(number)),
+        3 => put_filled(&Nowhere, text, out, b"c", text::out::none()),
         _ => out,
     }
 }
@@ -166,7 +176,13 @@ fn put_header(seed: &mut u64, plan: Plan, maximum: usize, text: &mut [u8]) -> Ou
         plan.gates
     };
     let numbers = [maximum, inputs, latches, outputs, gates, 0];
-    put_filled(text, text::out::to(1), b"aag # # # # #\n", numbers)
+    put_filled(
+        &Nowhere,
+        text,
+        text::out::to(1),
+        b"aag # # # # #\n",
+        numbers,
+    )
 }
 
 fn put_sections(

@@ -1,11 +1,13 @@
 // The names and the uses that ASCII AIGER texts by chance are made of, and what is wrong in them.
+#![tactic(auto)]
+
 use text::numbers::number_at;
 use trial_pieces::dice::{chance, roll, roll_from};
 use trial_pieces::pieces::plus;
 
 // Sections by their numbers of lines; `step` is how literals go on, `turned` whether they go down from the largest, `mixed` how
 // many change places, `order` how the gates stand, `fault` what is wrong.
-#[derive(Drop)]
+#[derive(Clone, Copy)]
 pub struct Plan {
     pub inputs: usize,
     pub latches: usize,
