@@ -3,14 +3,11 @@
 use Prim.Native.Nat.{ℕ, suc, ◌≤◌}
 use mathlib.Core.Path.{◌≡◌, refl, ◌∙◌, sym}
 use mathlib.Core.Bool.{Bool, false, true, not, false≢true}
-use mathlib.Core.Logic.{inl, inr}
 use mathlib.Core.List.{List, [], ◌∷◌}
 use mathlib.Core.Option.{none, some}
 use Rattle.memory.proofs.TestLaws.{and-true}
 use lib.Dec.{eqb}
 use native.Mathlib.Omega.{arith}
-use types.Run.{OneOf}
-use denote.Enum.Declared.{tag_of}
 use borrow.Author.Tests.{not-true, not-false}
 use lib.ListN.{length, drop}
 use Rattle.aiger.specs.AigerText.{Header, opening}
@@ -18,28 +15,25 @@ use Rattle.aiger.specs.AigerReading.{Reading, ◌>>=◌, line, starts_with, head
 use Rattle.aiger_lines.specs.declared.Field.{Field}
 use Rattle.aiger_lines.specs.declared.Field.TheVariants as fields
 use Rattle.aiger_lines.specs.Lines.{field, field_read}
-use Rattle.aiger_lines.specs.contracts.Field.{the_type}
 use Rattle.aiger_lines.proofs.FieldLaws.{line_other, line-last, line-next}
 
 -- The field is none with a space after it; it is none that ends its line.
 abbrev pub NotNext : Field → Type 0
-NotNext r = OneOf (1 ∷ 2 ∷ []) (tag_of the_type r)
+NotNext r = (v e : ℕ) → r ≡ fields.Next v e → ⊥
 
 abbrev pub NotLast : Field → Type 0
-NotLast r = OneOf (0 ∷ 2 ∷ []) (tag_of the_type r)
+NotLast r = (v e : ℕ) → r ≡ fields.Last v e → ⊥
 
 module _ (f : List ℕ → Reading Header) (text : List ℕ) (at : ℕ) where
   ends-early : (k : ℕ) → ((v : ℕ) (u : List ℕ) → f (v ∷ []) u ≡ none) → (r : Field) → field_read text r ≡ field (drop at text) → NotNext r → none ≡ (line (suc k) >>= f) (drop at text)
-  ends-early k few (fields.Next v e) read (inl n) = absurd (omega arith)
-  ends-early k few (fields.Next v e) read (inr n) = absurd (omega arith)
+  ends-early k few (fields.Next v e) read n = absurd (n v e refl)
   ends-early k few (fields.Last v e) read n = sym (line-last f k text at (fields.Last v e) read v e refl ∙ few v (drop e text))
   ends-early k few fields.Other read n = sym (line_other f k text at fields.Other read refl)
 
   goes_on : (r : Field) → field_read text r ≡ field (drop at text) → NotLast r → none ≡ (line 1 >>= f) (drop at text)
   unfolding line
   goes_on (fields.Next v e) read n = sym (line-next f 0 text at (fields.Next v e) read v e refl)
-  goes_on (fields.Last v e) read (inl n) = absurd (omega arith)
-  goes_on (fields.Last v e) read (inr n) = absurd (omega arith)
+  goes_on (fields.Last v e) read n = absurd (n v e refl)
   goes_on fields.Other read n = sym (line_other f 0 text at fields.Other read refl)
 
 starts-long : (s t : List ℕ) → starts_with s t ≡ true → length s ≤ length t

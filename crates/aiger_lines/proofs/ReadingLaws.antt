@@ -68,8 +68,8 @@ after-done {A} m t = of (m t)
 pub digit-least : (b : ℕ) → is_digit b ≡ true → 48 ≤ b
 digit-least b h = leb-true 48 b (and-true (leb 48 b) (leb b 57) h).0
 
-pub is-digit : (byte : ℕ) (b : Bool) → b ≡ is_digit byte → not b ≡ false → is_digit byte ≡ true
-is-digit byte b e n = sym e ∙ not-false b n
+pub is-digit : (x : ℕ) (b : Bool) → b ≡ is_digit x → not b ≡ false → is_digit x ≡ true
+is-digit x b e n = sym e ∙ not-false b n
 
 -- ---- digits: the number so far is `value`, and they go on at i
 

@@ -9,7 +9,7 @@ use native.Mathlib.Decide.{dec_le, ℕ_discrete}
 use lib.ListN.{take, length-take}
 use lib.Dec.{eqb, leb}
 use borrow.Author.Tests.{lt-ltb, le-ltb, le-leb, lt-leb, ne_eqb}
-use Rattle.aiger.specs.AigerText.{Header, Section, input_line, latch_line, output_line, gate_line, section_of, definition_right, line_right}
+use Rattle.aiger.specs.AigerText.{input_line, latch_line, output_line, gate_line, section_of, definition_right, line_right}
 use Rattle.aiger_lines.specs.declared.Line.{Line}
 use Rattle.aiger_lines.specs.declared.Header as h
 use Rattle.aiger_lines.specs.declared.Section as s

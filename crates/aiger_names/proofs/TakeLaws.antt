@@ -1,7 +1,7 @@
 -- Windows taken one after the other: the walk along the lines as one is made, what is taken of it, and what is left when all are taken.
 -- Assumes nothing.
 use Prim.Native.Nat.{ℕ, ◌+◌, ◌-◌, ◌*◌, ◌<◌, ◌≤◌, ◌/◌, ◌^◌}
-use mathlib.Core.Path.{◌≡◌, refl, sym, ap, ◌∙◌}
+use mathlib.Core.Path.{◌≡◌, refl, sym, ap, subst, ◌∙◌}
 use mathlib.Core.Bool.{Bool, true, false, not, ◌&&◌}
 use mathlib.Core.List.{List}
 use native.Mathlib.Omega.{arith}
@@ -56,7 +56,7 @@ place_inside : (text : List ℕ) (p : Place) → PlaceIs text p → p.node ≤ n
 place_inside text p P = omega (arith, P.node, nodes-most (aiger_in text).header p.line P.inside)
 
 lines-few : (text : List ℕ) (x : h.Header) → FewHeader x → header_in x ≡ (aiger_in text).header → line_count (aiger_in text).header < 2 ^ 40
-lines-few text x F e = rw e at few
+lines-few text x F e = subst (λ y. line_count y < 2 ^ 40) e few
   where
     few : line_count (header_in x) < 2 ^ 40
     few = omega arith
@@ -65,7 +65,7 @@ place-few : (text : List ℕ) (x : h.Header) (p : Place) → FewHeader x → hea
 place-few text x p F e P = omega (arith, place_inside text p P, lines-few text x F e)
 
 pub place-upto : (text : List ℕ) (x : h.Header) (lines : ℕ) (p : Place) → header_in x ≡ (aiger_in text).header → lines ≡ line_count (header_in x) → PlaceIs text p → p.line ≤ lines
-place-upto text x lines p e n P = rw (n, e) P.inside
+place-upto text x lines p e n P = subst (λ k. p.line ≤ k) (sym (n ∙ ap line_count e)) P.inside
 
 -- The line l is read at the place; b says whether it defines a node.
 module _
@@ -274,7 +274,7 @@ module _
       more = rw ends at more;
       found = rw ends at L.found;
       distinct = λ D. rw ends at (taken-distinct D);
-      pairs = λ f. rw ends at (pairs-kept (aiger_in text) win.start win.end base w w₁ w' K (rw same at (room.pairs f).0) (L.pairs f));
+      pairs = λ f. rw ends at (pairs-kept (aiger_in text) win.start win.end base w w₁ w' K (subst (λ y. base ≡ 4 * (node_count y + y.outputs)) same (room.pairs f).0) (L.pairs f));
       long = L.kept.long ∙ K.long;
     }
 
@@ -380,7 +380,7 @@ module _ (text : List ℕ) (x : h.Header) (fits : Bool) (base : ℕ) (w : List �
   place-last = let h : node_count (aiger_in text).header ≤ place.node = rw (← same, ← all) end in omega (arith, place_inside text place B.here)
 
   defined-is : eqb found uses ≡ is_defined (aiger_in text)
-  defined-is = rw (B.count, count, same, place-last) (found_all (aiger_in text))
+  defined-is = rw (B.count, count ∙ ap use_count same, place-last) (found_all (aiger_in text))
 
   pub names-all : eqb found uses ≡ is_distinct (aiger_in text) && is_defined (aiger_in text)
   names-all = let d = distinct-all (aiger_in text) (rw place-last at B.distinct) in rw (d, defined-is)

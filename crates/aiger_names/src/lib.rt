@@ -1,5 +1,7 @@
 // Whether the names of an AIGER text are right: no variable is defined twice, and each that is used is defined, or constant. If the rows fit a file, each literal is put into its row's pair on the way, its node in place of its variable.
 // A text may be longer than any memory, so nodes are taken in windows, as many as memory holds, and for each window the text is walked once. A later definition that the window has is a definition twice; a use that it has is counted. Nodes differ, so a use is counted once at most: all are defined exactly if as many are counted as there are uses.
+#![tactic(auto)]
+
 ghost use Rattle.std.specs.Prelude.{◌≡◌, true, cond, ◌&&◌, ◌+◌, ◌*◌, ◌<◌, ◌≤◌, ◌^◌, length, leb};
 ghost use Rattle.aiger.specs.AigerText.{node_count, line_count, section_of, is_distinct, is_defined};
 ghost use Rattle.aiger_lines.specs.Lines.{header_in, section_in, aiger_in, lines_stand, FewHeader, Counted};

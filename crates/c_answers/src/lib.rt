@@ -1,4 +1,6 @@
 // What callers in C are answered: structs of numbers, with the refusal's number and place first, both 0 on success. What else a struct has is 0 where the operation refuses.
+#![tactic(auto)]
+
 ghost use Rattle.std.specs.Prelude.{◌≡◌, ◌<◌};
 ghost use Rattle.netlist.specs.Limits.{most_blocks, most_rows};
 ghost use Rattle.questions.specs.Questions.{no_refusal};

@@ -1,4 +1,3 @@
--- Laws of the clock list, and steps of the walks by hand.
+-- Laws of the clock list.
 pub mod EntryLaws
 pub mod ListedLaws
-pub mod WalkSteps

@@ -1,4 +1,6 @@
 // The rows of the cone of influence moved down in place, with new numbers.
+#![tactic(auto)]
+
 ghost use Rattle.std.specs.Prelude.{◌≡◌, List, ◌+◌, ◌*◌, ◌<◌, ◌≤◌, ◌^◌, length};
 ghost use Rattle.memory.specs.Slots.{set_slot};
 ghost use Rattle.memory.specs.Frames.{KeptOutside};

@@ -1,4 +1,6 @@
 // Count: how many rows of each sort a netlist has.
+#![tactic(auto)]
+
 ghost use Rattle.count.specs.CountOutcome.{Counted};
 
 use accept::{Acceptance, FileRefusal};

@@ -1,4 +1,6 @@
 // Fold: the public operation, with the caller's clock list.
+#![tactic(auto)]
+
 ghost use Rattle.fold_answers.specs.FoldedOutcome.{Folded};
 
 use clock_list::Clock;

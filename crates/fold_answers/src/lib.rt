@@ -1,4 +1,6 @@
 // What Fold answers, and what it promises (specs/FoldedOutcome.antt; over plain slices, specs/FoldOutcome.antt).
+#![tactic(auto)]
+
 ghost use Rattle.std.specs.Prelude.{◌≡◌};
 ghost use Rattle.fold_answers.specs.FoldAnswers.{used_in};
 

@@ -1,4 +1,6 @@
 // Fold over plain slices: questions 1 to 16, then the stages in turn; the clock entries stay packed in the work memory.
+#![tactic(auto)]
+
 ghost use Rattle.fold_answers.specs.FoldOutcome.{CoreFolded};
 
 use fold_answers::{FoldNumbers, Folding};

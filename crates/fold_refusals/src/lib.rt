@@ -1,4 +1,6 @@
 // What Fold is refused for, and questions 1 to 15, which are asked before the lasso is sought.
+#![tactic(auto)]
+
 ghost use Rattle.std.specs.Prelude.{◌≡◌};
 ghost use Rattle.fold_refusals.specs.FoldRefusals.{fold_refusal_in};
 

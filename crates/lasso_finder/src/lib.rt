@@ -1,4 +1,6 @@
 // The lasso, the registers' periods, the phase count and the clocks of a netlist, in the lent work memory.
+#![tactic(auto)]
+
 ghost use Rattle.std.specs.Prelude.{◌≤◌};
 ghost use Rattle.netlist.specs.Limits.{most_phases};
 ghost use Rattle.netlist.specs.FileFormat.{netlist_of};

@@ -1,4 +1,6 @@
 // The lasso: the first state that equals an earlier one.
+#![tactic(auto)]
+
 ghost use Rattle.std.specs.Prelude.{◌≡◌, ◌+◌, ◌*◌, ◌≤◌, length};
 ghost use Rattle.memory.specs.Lists.{all_below};
 ghost use Rattle.netlist.specs.FileFormat.{netlist_of};

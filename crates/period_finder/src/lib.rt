@@ -1,4 +1,6 @@
 // The registers' periods and the phase count.
+#![tactic(auto)]
+
 ghost use Rattle.std.specs.Prelude.{◌≡◌, cond, ◌+◌, ◌<◌, ◌≤◌, eqb, length};
 ghost use Rattle.memory.specs.Frames.{KeptOutside};
 ghost use Rattle.netlist.specs.Limits.{most_phases, most_original_rows, most_original_registers, fold_work_bytes, last_state};

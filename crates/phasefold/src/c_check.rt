@@ -6,8 +6,7 @@ ghost use Rattle.c_answers.specs.AnswerNumbers.{refusal_numbers};
 use accept::Acceptance;
 use c_answers::PfRefusal;
 
-#[unsafe(no_mangle)]
-pub extern "C" fn pf_check(file: &[u8]) -> PfRefusal
+pub fn pf_check(file: &[u8]) -> PfRefusal
     ensures { result ≡ refusal_numbers (file_refusal file.now) }
 {
     match accept::accept(file) {

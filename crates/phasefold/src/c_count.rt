@@ -5,8 +5,7 @@ ghost use Rattle.phasefold.specs.ForeignAnswers.{count_numbers};
 use c_answers::PfCounts;
 use count::CountAnswer;
 
-#[unsafe(no_mangle)]
-pub extern "C" fn pf_count(file: &[u8]) -> PfCounts
+pub fn pf_count(file: &[u8]) -> PfCounts
     ensures { result ≡ count_numbers file.now }
 {
     match count::count(file) {

@@ -4,8 +4,7 @@ ghost use Rattle.phasefold.specs.ForeignAnswers.{FoldedFlat};
 use c_answers::PfFolded;
 use clock_list::Clock;
 
-#[unsafe(no_mangle)]
-pub extern "C" fn pf_fold(
+pub fn pf_fold(
     file: &[u8],
     wish: u32,
     res: &mut [u8],

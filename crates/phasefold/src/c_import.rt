@@ -4,8 +4,7 @@ ghost use Rattle.phasefold.specs.ForeignAnswers.{ImportedFlat};
 use c_answers::PfWritten;
 use import_answers::Importing;
 
-#[unsafe(no_mangle)]
-pub extern "C" fn pf_import(text: &[u8], res: &mut [u8], work: &mut [u8]) -> PfWritten
+pub fn pf_import(text: &[u8], res: &mut [u8], work: &mut [u8]) -> PfWritten
     ensures { ImportedFlat text.now res.old res.new work.old work.new result }
 {
     match import::import(text, res, work) {

@@ -4,8 +4,7 @@ ghost use Rattle.phasefold.specs.ForeignAnswers.{RanFlat};
 use c_answers::PfRefusal;
 use run_answers::RunAnswer;
 
-#[unsafe(no_mangle)]
-pub extern "C" fn pf_run(
+pub fn pf_run(
     file: &[u8],
     steps: u32,
     choices: &[u8],

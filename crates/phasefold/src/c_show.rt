@@ -3,8 +3,7 @@ ghost use Rattle.phasefold.specs.ForeignAnswers.{ShownFlat};
 
 use c_answers::PfShown;
 
-#[unsafe(no_mangle)]
-pub extern "C" fn pf_show(file: &[u8], block: u32) -> PfShown
+pub fn pf_show(file: &[u8], block: u32) -> PfShown
     ensures { ShownFlat file.now block result }
 {
     let mut number = 0;

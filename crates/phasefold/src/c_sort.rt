@@ -4,8 +4,7 @@ ghost use Rattle.phasefold.specs.ForeignAnswers.{SortedFlat};
 use c_answers::PfWritten;
 use sort_answers::Sorting;
 
-#[unsafe(no_mangle)]
-pub extern "C" fn pf_sort(file: &[u8], res: &mut [u8], work: &mut [u8]) -> PfWritten
+pub fn pf_sort(file: &[u8], res: &mut [u8], work: &mut [u8]) -> PfWritten
     ensures { SortedFlat file.now res.old res.new work.old work.new result }
 {
     match sort::sort(file, res, work) {

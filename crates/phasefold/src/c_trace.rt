@@ -3,8 +3,7 @@ ghost use Rattle.phasefold.specs.ForeignAnswers.{TracedFlat};
 
 use c_answers::PfTraced;
 
-#[unsafe(no_mangle)]
-pub extern "C" fn pf_trace(
+pub fn pf_trace(
     file: &[u8],
     wish: u32,
     groups: u32,

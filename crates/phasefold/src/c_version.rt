@@ -2,8 +2,7 @@
 ghost use Rattle.std.specs.Prelude.{◌≡◌};
 ghost use Rattle.c_answers.specs.AnswerNumbers.{interface_number};
 
-#[unsafe(no_mangle)]
-pub extern "C" fn pf_version() -> u32
+pub fn pf_version() -> u32
     ensures { result ≡ interface_number }
 {
     c_answers::interface_number()

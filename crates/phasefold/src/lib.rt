@@ -1,4 +1,6 @@
 // The phase folder's public library: Check, Count, Show, Sort, Import, Run, Fold and Trace, and a file for each with its export to C, where a slice is a pointer and a length, and one for the interface's number.
+#![tactic(auto)]
+
 pub use accept::{Acceptance, FileRefusal, accept as check};
 pub use blockfile::count::Counts;
 pub use clock_list::Clock;

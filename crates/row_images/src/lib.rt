@@ -1,4 +1,6 @@
 // The image of one row in one phase, from the images and the known values that stand in `work`.
+#![tactic(auto)]
+
 ghost use Rattle.std.specs.Prelude.{◌≡◌, ℕ, ◌-◌, ◌/◌, ◌<◌, ◌≤◌, length};
 ghost use Rattle.memory.specs.Fields.{u16_at};
 ghost use Rattle.ternary.specs.Ternary.{X};

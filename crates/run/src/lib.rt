@@ -1,4 +1,6 @@
 // Run: questions 1 to 10 and 17 to 20, then the steps, in the lent memory.
+#![tactic(auto)]
+
 ghost use Rattle.std.specs.Prelude.{◌≡◌, List, ◌≤◌, length, replicate};
 ghost use Rattle.netlist.specs.Limits.{most_rows, most_steps};
 ghost use Rattle.netlist.specs.Rows.{Row};

@@ -1,4 +1,6 @@
 // What Run answers, and what it promises (specs/Ran.antt).
+#![tactic(auto)]
+
 ghost use Rattle.std.specs.Prelude.{◌≡◌};
 ghost use Rattle.run_answers.specs.RunAnswers.{run_refusal_in};
 

@@ -1,4 +1,6 @@
 // Show: a block's row part, in the caller's own file.
+#![tactic(auto)]
+
 ghost use Rattle.show.specs.ShowOutcome.{Shown};
 
 use accept::Acceptance;

@@ -61,9 +61,9 @@ module _ (N G k : ℕ) (right : groups_right N G k ≡ true) where
 
 -- ---- nor are the bytes
 
-module _ (file folded : List ℕ) (n m N : ℕ) (F : FoldedPair file folded n m N) (G k : ℕ) (groups : Bool) (told : groups ≡ groups_right N G k) (yes : not groups ≡ false) where
+module _ (file folded : List ℕ) (n m N : ℕ) (F : FoldedPair file folded n m N) (G k : ℕ) (groups : Bool) (told : groups ≡ groups_right N G k) (yes : groups ≡ true) where
   right : groups_right N G k ≡ true
-  right = sym told ∙ not-false groups yes
+  right = sym told ∙ yes
 
   pub steps-asked : (groups_right N G k ≡ true) × (N ≤ most_phases)
   steps-asked = (right, F.phases.1)
@@ -107,13 +107,13 @@ module _ (original : List Row) (N : ℕ) (folded : List Row) (G k : ℕ) (choice
   stopped r h = record { refusal = h; go = λ kept unknown steps e. absurd (stop-not-go r e) }
 
   module _ (groups : Bool) (groups-told : groups ≡ groups_right N G k) where
-    pub stops-26 : not groups ≡ true → Planned (Stop Groups)
-    stops-26 h = stopped Groups (sym (list-no 25 (groups_right N G k) from27 (sym groups-told ∙ not-true groups h)))
+    pub stops-26 : groups ≡ false → Planned (Stop Groups)
+    stops-26 h = stopped Groups (sym (list-no 25 (groups_right N G k) from27 (sym groups-told ∙ h)))
 
-    pub groups-right : not groups ≡ false → groups_right N G k ≡ true
-    groups-right h = sym groups-told ∙ not-false groups h
+    pub groups-right : groups ≡ true → groups_right N G k ≡ true
+    groups-right h = sym groups-told ∙ h
 
-    module _ (groups-yes : not groups ≡ false) (values : Bool) (kept-unknown kept : ℕ) (kept-unknown-is : kept-unknown ≡ count_if is_unknown folded) (kept-is : kept ≡ count_if is_input folded)
+    module _ (groups-yes : groups ≡ true) (values : Bool) (kept-unknown kept : ℕ) (kept-unknown-is : kept-unknown ≡ count_if is_unknown folded) (kept-is : kept ≡ count_if is_input folded)
         (values-told : values ≡ (eqb (length choices) kept-unknown && eqb (length inputs) (G * kept)) && all_binary choices && all_binary inputs) where
       values-are : values ≡ values_right folded G choices inputs
       values-are = values-told ∙ rw (kept-unknown-is, kept-is) refl
@@ -121,15 +121,15 @@ module _ (original : List Row) (N : ℕ) (folded : List Row) (G k : ℕ) (choice
       after-26 : asked ≡ first_refusal from27
       after-26 = list-yes 26 (groups_right N G k) from27 (groups-right groups-yes)
 
-      pub stops-27 : not values ≡ true → Planned (Stop Values)
-      stops-27 h = stopped Values (sym (after-26 ∙ list-no 26 (values_right folded G choices inputs) from28 (sym values-are ∙ not-true values h)))
+      pub stops-27 : values ≡ false → Planned (Stop Values)
+      stops-27 h = stopped Values (sym (after-26 ∙ list-no 26 (values_right folded G choices inputs) from28 (sym values-are ∙ h)))
 
-      module _ (values-yes : not values ≡ false) (unknown each steps : ℕ) (unknown-is : unknown ≡ count_if is_unknown original) (each-is : each ≡ count_if is_input original) (steps-are : steps ≡ trace_steps N G k) where
+      module _ (values-yes : values ≡ true) (unknown each steps : ℕ) (unknown-is : unknown ≡ count_if is_unknown original) (each-is : each ≡ count_if is_input original) (steps-are : steps ≡ trace_steps N G k) where
         size_is : unknown + steps * each ≡ trace_length original (trace_steps N G k)
         size_is = rw (unknown-is, each-is, steps-are) refl
 
         after-27 : asked ≡ first_refusal from28
-        after-27 = after-26 ∙ list-yes 27 (values_right folded G choices inputs) from28 (sym values-are ∙ not-false values values-yes)
+        after-27 = after-26 ∙ list-yes 27 (values_right folded G choices inputs) from28 (sym values-are ∙ values-yes)
 
         pub stops-28 : room < unknown + steps * each → Planned (Stop Room)
         stops-28 h = stopped Room (sym (after-27 ∙ list-no 27 (leb (trace_length original (trace_steps N G k)) room) [] (lt-leb (trace_length original (trace_steps N G k)) room (omega (arith, size_is)))))

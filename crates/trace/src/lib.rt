@@ -1,4 +1,6 @@
 // Trace: values of a folded netlist taken back to the original. Fold's questions, then 26 to 28; the fold is made in the lent result, which is cleared as work is.
+#![tactic(auto)]
+
 ghost use Rattle.std.specs.Prelude.{◌≡◌, true, ◌&&◌, ◌≤◌, length, eqb};
 ghost use Rattle.netlist.specs.Limits.{most_phases, fold_work_bytes};
 ghost use Rattle.netlist.specs.FileFormat.{netlist_of};

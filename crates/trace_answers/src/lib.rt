@@ -1,4 +1,6 @@
 // What Trace answers, and what it promises (specs/Traced.antt).
+#![tactic(auto)]
+
 ghost use Rattle.std.specs.Prelude.{◌≡◌};
 ghost use Rattle.trace_answers.specs.TraceAnswers.{trace_refusal_in};
 

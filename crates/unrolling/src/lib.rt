@@ -1,4 +1,6 @@
 // The unrolling into N phases, before the cone of influence is taken: the new rows stand in `result` where a file has them, and the image literal of each original row in each phase in `work`.
+#![tactic(auto)]
+
 ghost use Rattle.std.specs.Prelude.{◌≡◌, ℕ, ◌<◌, ◌≤◌, min, length};
 ghost use Rattle.memory.specs.Frames.{KeptOutside};
 ghost use Rattle.ternary.specs.Ternary.{Ternary};

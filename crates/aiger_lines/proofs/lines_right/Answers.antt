@@ -1,4 +1,3 @@
-use Prim.Native.Nat.{◌-◌}
 use borrow.Author.Rules.{rules}
 use Rattle.aiger_lines.proofs.RightLaws.{padded-few}
 use Rattle.aiger_lines.proofs.StandLaws.{read-start, read_more, no-outputs, not-read, not_right, all_read}

@@ -1,4 +1,3 @@
-use Prim.Native.Nat.{◌-◌}
 use borrow.Author.Rules.{rules}
 use Rattle.aiger_lines.proofs.ReadingLaws.{is-digit, digits-end, digits-stop, digits-large, digits_more}
 use Rattle.aiger_lines.proofs.more_digits.Goals as goal

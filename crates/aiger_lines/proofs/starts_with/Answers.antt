@@ -1,4 +1,3 @@
-use Prim.Native.Nat.{◌-◌}
 use borrow.Author.Rules.{rules}
 use Rattle.aiger_lines.proofs.ReadingLaws.{opening-short, opening-other, opening-more, opening-end}
 use Rattle.aiger_lines.proofs.starts_with.Goals as goal

@@ -1,4 +1,3 @@
-use Prim.Native.Nat.{◌-◌}
 use borrow.Author.Rules.{rules}
 use Rattle.cone_search.proofs.MarkLaws.{found-le}
 use Rattle.cone_search.proofs.ConeSearch.{reaching-start, visit-room, visit-inside, visit-found, visit-less, visit-next, reaching-end}
@@ -11,7 +10,7 @@ pub slot_at-slot-requires : goal.slot_at-slot-requires
 slot_at-slot-requires c = search visit-room
 
 pub visit_row-found-requires : goal.visit_row-found-requires
-visit_row-found-requires c = ((search visit-inside, (search rules, search rules)), (search rules, search visit-found))
+visit_row-found-requires c = record { row_lt_rows = (search visit-inside, (search rules, search rules)); fold_result_bytes_in_bounds = search rules; found = search visit-found }
 
 pub overflow_add-visited : goal.overflow_add-visited
 overflow_add-visited c = search (found-le, rules)

@@ -1,4 +1,3 @@
-use Prim.Native.Nat.{◌-◌}
 use borrow.Author.Rules.{rules}
 use Rattle.cone_search.proofs.ConeSearch.{seeded-none, seeded-more, seeded-found, seeded-all}
 use Rattle.cone_search.proofs.find_roots.Goals as goal

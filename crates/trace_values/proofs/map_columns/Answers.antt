@@ -8,11 +8,10 @@ pub list_labels-count-requires : goal.list_labels-count-requires
 list_labels-count-requires c = search (labels-room, rules)
 
 pub map_rows-requires : goal.map_rows-requires
-map_rows-requires c =
-    let P = c.requires in
+map_rows-requires c = let P = c.requires in
     let L = c.list_labels-count.ensures in
     let U = c.phases_of-used.ensures in
-    ((search rules, columns-ready _ _ _ _ _ P.0 c.args.unknown _ _ (search rules) (search rules) _ L.1 L.0 _ U), search zeros-again)
+    record { has_rows = (search rules, columns-ready _ _ _ _ _ P.folded_pair c.args.unknown _ _ (search rules) (search rules) _ L.1 L.0 _ U); columns_value = search zeros-again }
 
 pub returns : goal.returns
 returns c =
@@ -20,4 +19,4 @@ returns c =
     let L = c.list_labels-count.ensures in
     let U = c.phases_of-used.ensures in
     let M = c.map_rows.ensures in
-    mapped _ _ _ _ _ P.0 _ _ _ _ L.0 L.1 (search rules) _ U M
+    mapped _ _ _ _ _ P.folded_pair _ _ _ _ L.0 L.1 (search rules) _ U M

@@ -1,0 +1,13 @@
+-- `names_right` meets its contract. The invariant: the windows before the place are taken. The measure is the nodes left.
+-- Assumes nothing.
+use Prim.Native.Nat.{◌-◌}
+use mathlib.Core.Path.{◌≡◌}
+use lib.ListN.{length}
+use Rattle.aiger_names.proofs.TakeLaws.{Taking}
+use Rattle.aiger_names.proofs.names_right.Given as goal
+
+abbrev pub invariant-windows : goal.invariant-windows
+invariant-windows l = Taking l.text l.h l.fits l.base l.work l.place l.found × (length l.work ≡ length l.initial.work)
+
+abbrev pub decreases-windows : goal.decreases-windows
+decreases-windows l = l.nodes - l.place.node
