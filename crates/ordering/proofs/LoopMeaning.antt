@@ -1,7 +1,7 @@
 -- A gate is not grounded exactly if it is in a loop of gates or behind one: from a gate that is never placed one goes on to gates that are never placed, and there are only so many.
 -- Assumes nothing.
 use Prim.Native.Nat.{ℕ, zero, suc, ◌+◌, ◌-◌, ◌<◌, ◌≤◌}
-use mathlib.Core.Path.{◌≡◌, refl, sym, ap, ◌∙◌, subst}
+use mathlib.Core.Path.{◌≡◌, refl, sym, subst}
 use mathlib.Core.Logic.{◌⊎◌, inl, inr}
 use mathlib.Core.Bool.{Bool, true, false, not, ◌&&◌, ◌||◌, false≢true}
 use mathlib.Core.List.{List, [], ◌∷◌}
@@ -12,7 +12,7 @@ use borrow.Author.Tests.{eqb-true, eq-eqb}
 use Rattle.memory.proofs.TestLaws.{or_case, fails}
 use Rattle.memory.specs.Lists.{all_of, Among, here, there}
 use Rattle.netlist.specs.Rows.{Row, row_at, fanin_nodes}
-use Rattle.ordering.specs.GateOrder.{is_gate, is_in, is_ready, gate_order, Grounded, grounded}
+use Rattle.ordering.specs.GateOrder.{is_gate, is_in, gate_order, Grounded, grounded}
 use Rattle.ordering.specs.Loops.{Names, Reaches, one, more, LoopBehind, LoopMeans}
 use Rattle.ordering.proofs.PlacingLaws.{count_below, count-le, count_less, gate-inside, order-done, in-grounded}
 

@@ -6,12 +6,11 @@ use mathlib.Core.Path.{◌≡◌, refl, sym, ap, ◌∙◌, subst}
 use mathlib.Core.Logic.{◌↔◌}
 use mathlib.Core.Bool.{Bool, true, false, ◌&&◌, false≢true}
 use mathlib.Core.List.{List, [], ◌∷◌, map}
-use mathlib.Core.Option.{some}
 use native.Mathlib.Omega.{arith}
 use native.Mathlib.Decide.{dec_lt}
 use lib.ListN.{length, length-map, get_or-map}
 use lib.Dec.{ltb, leb}
-use borrow.Author.Tests.{ltb-true, leb-true, lt-ltb, le-leb}
+use borrow.Author.Tests.{ltb-true, lt-ltb}
 use Rattle.memory.specs.Lists.{count_if}
 use Rattle.memory.specs.Fields.{byte_at}
 use Rattle.memory.proofs.ListLaws.{count-some}
@@ -19,7 +18,7 @@ use Rattle.netlist.specs.Limits.{most_phases, most_steps, most_rows}
 use Rattle.netlist.specs.Rows.{Row, constant, input, register, and_gate, xor_gate, mux_gate, output, RowFields, encode_row, row_from_fields, decode_row, row_at, kind_of, phase_of, has_name, is_output}
 use Rattle.netlist.specs.FileFormat.{block_count, block_at, fields_of, fields_at, netlist_of, blocks_for}
 use Rattle.netlist.proofs.RowLaws.{output-is, named-alike}
-use Rattle.netlist.specs.WellFormed.{CheckedBy, CheckedRows, Unordered, UnorderedRows, SameName, OperandsBelow, Ordered, NextBelow, ResetIn, NamesNode, OnLiterals, NamesUnique, FoldableRows}
+use Rattle.netlist.specs.WellFormed.{CheckedBy, CheckedRows, Unordered, UnorderedRows, SameName, OperandsBelow, Ordered, NextBelow, ResetIn, NamesNode, OnLiterals, NamesUnique}
 use Rattle.netlist.proofs.FileLaws.{block-at, read_length}
 use Rattle.questions.specs.Questions.{Refusal, no_refusal, question, item_questions, length_right, sum_right, head_right, count_right, unused_right, block_questions, kind_right, fields_right, label_is_new, names_earlier, names_anywhere, literals_right, row_questions, rows_refusal, file_refusal_with, file_refusal, unordered_refusal, value_lists_right, all_binary, run_memory_right, run_refusal, show_refusal}
 use Rattle.questions.proofs.QuestionLaws.{all_none, all_yes, ◌then◌, number-none, question-none, question-of, items-none, items-yes, passed, passed-of}
