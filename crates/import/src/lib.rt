@@ -1,5 +1,7 @@
 // Import: an AIGER text, written as a netlist file that Check accepts. Questions 23, 24, 25 and 22, in this order.
 // The header and each line by itself are asked first, in no memory; then the names, in an array, where a pair of two numbers is kept for each row if the rows fit a file; then the sorter takes the pairs as its rows, and work for its slots.
+#![tactic(auto)]
+
 ghost use Rattle.std.specs.Prelude.{◌≡◌, cond, ◌*◌, ◌<◌, ◌≤◌, ◌^◌, length};
 ghost use Rattle.netlist.specs.Limits.{import_result_bytes, import_work_bytes};
 ghost use Rattle.aiger_lines.specs.Lines.{Counted};
