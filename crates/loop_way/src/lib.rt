@@ -1,4 +1,6 @@
 // The way from the lowest gate that is never placed to the loop of gates that it waits for, in a file or in an AIGER text, for whoever is to mend it.
+#![tactic(auto)]
+
 ghost use Rattle.std.specs.Prelude.{◌≡◌, ◌*◌, ◌<◌, ◌≤◌, length};
 ghost use Rattle.memory.specs.Slots.{slot_at};
 ghost use Rattle.netlist.specs.FileFormat.{netlist_of};

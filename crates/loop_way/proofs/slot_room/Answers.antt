@@ -3,11 +3,7 @@
 use Prim.Native.Nat.{ℕ}
 use mathlib.Core.Path.{sym}
 use lib.ListN.{length-replicate}
-use Rattle.loop_way.proofs.slot_room.Statement.{statement}
-use Rattle.loop_way.proofs.slot_room.Tie as tie
+use Rattle.loop_way.proofs.slot_room.Goals as goal
 
-returns : tie.Need-returns
+pub returns : goal.returns
 returns c = sym (length-replicate {A = ℕ} 65536 0)
-
-pub slot-room-spec : {M : Type 1} → statement M
-slot-room-spec = tie.close (tie.spec returns)
