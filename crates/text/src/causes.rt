@@ -1,7 +1,8 @@
 // Why a file cannot be read or written, in the system's words.
 use crate::bytes::least;
-use crate::out::{Out, put};
-use crate::streams::Streams;
+use crate::out::{Out, flush, put, to};
+use crate::rooms;
+use crate::streams::{ERRORS, Streams};
 use std::fmt;
 use std::fmt::Write;
 use std::io::Error;
@@ -57,4 +58,14 @@ pub fn put_cause(rt: &impl Streams, buffer: &mut [u8], out: Out, cause: Error) -
     let numbered = cause.raw_os_error().is_some();
     let end = least(words_of(&words.bytes[..size], numbered), size);
     put(rt, buffer, out, &words.bytes[..end])
+}
+
+// A line of standard error: what failed, a colon and the cause.
+pub fn fail(rt: &impl Streams, what: &[u8], cause: Error) {
+    let mut room = rooms::buffer();
+    let named = put(rt, &mut room, to(ERRORS), what);
+    let parted = put(rt, &mut room, named, b": ");
+    let told = put_cause(rt, &mut room, parted, cause);
+    let all = put(rt, &mut room, told, b"\n");
+    flush(rt, &room, all);
 }
