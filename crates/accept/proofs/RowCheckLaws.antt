@@ -14,7 +14,7 @@ use Rattle.memory.proofs.ListLaws.{count-le}
 use Rattle.netlist.specs.Rows.{Row, RowFields, decode_row, row_at, has_name, is_output}
 use Rattle.netlist.specs.FileFormat.{read_fields, row_count, fields_of, fields_at, netlist_of}
 use Rattle.netlist.proofs.FileLaws.{read_length, read_at}
-use Rattle.questions.specs.Questions.{Refusal, Counts, no_refusal, first_refusal, question, item_questions, kind_right, fields_right, label_is_new, literals_right, row_questions, rows_refusal}
+use Rattle.questions.specs.Questions.{Refusal, Counts, first_refusal, question, item_questions, kind_right, fields_right, label_is_new, literals_right, row_questions, rows_refusal}
 use Rattle.questions.proofs.QuestionLaws.{list-next, number-none, items-yes, list-stop}
 use Rattle.questions.proofs.AcceptedFiles.{Operand}
 use Rattle.blockfile.specs.declared.count.Counts as code

@@ -1,16 +1,16 @@
 -- The tests of a row, by its kind.
 -- Assumes nothing.
 use Prim.Native.Nat.{ℕ, zero, suc, ◌+◌, ◌*◌, ◌<◌, ◌≤◌, ◌/◌, ◌^◌}
-use mathlib.Core.Path.{◌≡◌, refl, sym, ap, ◌∙◌, subst}
+use mathlib.Core.Path.{◌≡◌, refl, sym, ap, ◌∙◌}
 use mathlib.Core.Logic.{◌⊎◌, inl, inr, ⊎_elim}
 use mathlib.Core.Bool.{Bool, true, false, cond, not, ◌&&◌, ◌||◌, false≢true}
 use mathlib.Core.List.{List}
 use native.Mathlib.Omega.{arith}
 use lib.ListN.{length, take}
-use lib.Dec.{eqb, ltb, leb}
+use lib.Dec.{eqb, ltb}
 use borrow.Author.Tests.{le-leb, lt-leb, lt-ltb, le-ltb, ne_eqb}
 use Rattle.memory.specs.Fields.{byte_at}
-use Rattle.netlist.specs.Rows.{Row, RowFields, row_from_fields, decode_row, row_at, label_of, has_name, is_output}
+use Rattle.netlist.specs.Rows.{Row, row_from_fields, decode_row, label_of, has_name}
 use Rattle.netlist.specs.FileFormat.{row_offset, read_fields, netlist_of}
 use Rattle.questions.specs.Questions.{fields_right, names_node, literals_right}
 use Rattle.questions.proofs.PlainWords.{fields_right-iff}
@@ -19,7 +19,7 @@ use Rattle.blockfile.specs.declared.Fields.{Fields}
 use Rattle.blockfile.specs.RowCode.{fields_in, Small}
 use Rattle.blockfile.specs.Ready.{HasRows}
 use Rattle.row_questions.specs.declared.RowTests.{RowTests}
-use Rattle.row_questions.specs.Slots.{labels, all_slots, slot_of}
+use Rattle.row_questions.specs.Slots.{labels, slot_of}
 use Rattle.row_questions.specs.Tally.{output_tally, row_tally, tally_of}
 use Rattle.row_questions.specs.RowTested.{operand_by, TestsOf}
 use Rattle.row_questions.proofs.TallyLaws.{only-tally}

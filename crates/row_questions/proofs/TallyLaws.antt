@@ -1,6 +1,6 @@
 -- The tally of one row more, what it says of outputs, and the counts from it.
 -- Assumes nothing.
-use Prim.Native.Nat.{ℕ, zero, suc, ◌+◌, ◌*◌, ◌<◌, ◌≤◌, ◌/◌, ◌^◌}
+use Prim.Native.Nat.{ℕ, zero, suc, ◌+◌, ◌<◌, ◌≤◌, ◌/◌, ◌^◌}
 use mathlib.Core.Path.{◌≡◌, refl, sym, ap, ◌∙◌}
 use mathlib.Core.Bool.{Bool, true, false, cond, not, ◌&&◌}
 use mathlib.Core.List.{List, [], ◌∷◌}
@@ -14,7 +14,7 @@ use Rattle.memory.proofs.ListLaws.{count-le, count_next, count-some-le}
 use Rattle.netlist.specs.Limits.{most_rows}
 use Rattle.netlist.specs.Rows.{Row, constant, row_at, is_input, is_register, is_unknown, is_output}
 use Rattle.questions.specs.Questions.{Counts, counts_of}
-use Rattle.row_questions.specs.Tally.{output_tally, tallied, row_tally, tally_of, counts_from}
+use Rattle.row_questions.specs.Tally.{output_tally, row_tally, tally_of, counts_from}
 use Rattle.row_questions.specs.RowTested.{only_nodes}
 use Rattle.row_questions.proofs.NameLaws.{and_yes}
 

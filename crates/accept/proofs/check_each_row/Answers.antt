@@ -1,4 +1,3 @@
-use Prim.Native.Nat.{◌-◌}
 use borrow.Author.Rules.{rules}
 use Rattle.name_marks.proofs.EarlierLaws.{row-few, row_inside}
 use Rattle.accept.proofs.RowCheckLaws.{passed_none, all-rows, row_below, tests-read, sum_fits, rows-stop, rows-again, outputs-few, rows-no-output, rows_right}

@@ -1,4 +1,4 @@
-use Rattle.std.proofs.Common.{◌-◌, refl, rules}
+use Rattle.std.proofs.Common.{refl, rules}
 use Rattle.blocks.proofs.BlockLaws.{unused-more, unused-no, unused-all}
 use Rattle.blocks.proofs.unused_right.Goals as goal
 

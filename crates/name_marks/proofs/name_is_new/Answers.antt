@@ -1,4 +1,3 @@
-use Prim.Native.Nat.{◌-◌}
 use borrow.Author.Rules.{rules}
 use Rattle.name_marks.proofs.EarlierLaws.{new_none, row-few, row_inside, earlier-few, earlier-inside, name-found, name-differs, name-again, name-all}
 use Rattle.name_marks.proofs.name_is_new.Goals as goal

@@ -1,4 +1,4 @@
-use Rattle.std.proofs.Common.{◌-◌, rules}
+use Rattle.std.proofs.Common.{rules}
 use Rattle.blocks.proofs.WriterLaws.{sum-none, sum_more, sum-all}
 use Rattle.blocks.proofs.writer.word_sum.Goals as goal
 

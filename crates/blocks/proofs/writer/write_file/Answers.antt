@@ -1,4 +1,4 @@
-use Rattle.std.proofs.Common.{◌-◌, arith, length-drop, length-take, rules}
+use Rattle.std.proofs.Common.{arith, length-drop, length-take, rules}
 use Rattle.blocks.proofs.WriterLaws.{blocks-none, blocks_more, file-written}
 use Rattle.blocks.proofs.writer.write_file.Goals as goal
 
