@@ -1,4 +1,6 @@
 // Where an AIGER text that Import refuses with 24 is wrong, for whoever is to mend it: its header, else the first line that is wrong by itself, else the first that defines a variable a second time, else the first that uses one that no line defines.
+#![tactic(auto)]
+
 ghost use Rattle.std.specs.Prelude.{◌≤◌, length};
 ghost use Rattle.aiger_lines.specs.Lines.{FewHeader};
 

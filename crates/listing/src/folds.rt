@@ -4,6 +4,7 @@ ghost use Rattle.std.specs.Prelude.{◌≡◌, ◌+◌, ◌≤◌, length};
 use fold_answers::FoldNumbers;
 use fold_memory::ENTRIES;
 use text::out::{Out, put_filled, two};
+use text::streams::Streams;
 
 // How many entries a clock list has room for.
 pub const CLOCK_ENTRIES: usize = 256;
@@ -55,7 +56,7 @@ pub fn entry_of(work: &[u8], index: u32) -> Entry {
 }
 
 // The line of the answers.
-pub fn put_numbers(buffer: &mut [u8], out: Out, numbers: FoldNumbers) -> Out {
+pub fn put_numbers(rt: &impl Streams, buffer: &mut [u8], out: Out, numbers: FoldNumbers) -> Out {
     let stem = numbers.stem as usize;
     let cycle = numbers.cycle as usize;
     let phases = numbers.phases as usize;
@@ -64,6 +65,7 @@ pub fn put_numbers(buffer: &mut [u8], out: Out, numbers: FoldNumbers) -> Out {
     let after = numbers.after as usize;
     let answers = [stem, cycle, phases, used, before, after];
     put_filled(
+        rt,
         buffer,
         out,
         b"stem # cycle # phases # used # rows # to #\n",
@@ -72,27 +74,27 @@ pub fn put_numbers(buffer: &mut [u8], out: Out, numbers: FoldNumbers) -> Out {
 }
 
 // A clock's label and period.
-pub fn put_clock(buffer: &mut [u8], out: Out, entry: Entry) -> Out {
+pub fn put_clock(rt: &impl Streams, buffer: &mut [u8], out: Out, entry: Entry) -> Out {
     let label = entry.label as usize;
     let period = entry.period as usize;
-    put_filled(buffer, out, b"clock # period #", two(label, period))
+    put_filled(rt, buffer, out, b"clock # period #", two(label, period))
 }
 
 // The line of a clock entry.
-fn put_entry(buffer: &mut [u8], out: Out, entry: Entry) -> Out {
+fn put_entry(rt: &impl Streams, buffer: &mut [u8], out: Out, entry: Entry) -> Out {
     let word = entry.word as usize;
     let ones = entry.ones as usize;
-    let named = put_clock(buffer, out, entry);
-    put_filled(buffer, named, b" word # ones #\n", two(word, ones))
+    let named = put_clock(rt, buffer, out, entry);
+    put_filled(rt, buffer, named, b" word # ones #\n", two(word, ones))
 }
 
 // The lines of the first `used` entries.
-pub fn put_entries(buffer: &mut [u8], out: Out, work: &[u8], used: u32) -> Out {
+pub fn put_entries(rt: &impl Streams, buffer: &mut [u8], out: Out, work: &[u8], used: u32) -> Out {
     let mut now = out;
     let mut index: u32 = 0;
     'entries: while index < used {
         let entry = entry_of(work, index);
-        now = put_entry(buffer, now, entry);
+        now = put_entry(rt, buffer, now, entry);
         index += 1;
     }
     now

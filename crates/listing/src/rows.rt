@@ -5,6 +5,7 @@ use blockfile::Fields;
 pub use blockfile::file_bytes;
 use text::bytes::{get, wide};
 use text::out::{Out, put_filled};
+use text::streams::Streams;
 
 // The rows of the longest file.
 pub const MOST_ROWS: usize = 32256;
@@ -50,20 +51,20 @@ pub fn fields_of(file: &[u8], row: usize) -> Fields {
 }
 
 // The line of a row: number, kind, reset, a, b, c.
-pub fn put_row(buffer: &mut [u8], out: Out, file: &[u8], row: usize) -> Out {
+pub fn put_row(rt: &impl Streams, buffer: &mut [u8], out: Out, file: &[u8], row: usize) -> Out {
     let fields = fields_of(file, row);
     let kind = wide(fields.kind);
     let reset = wide(fields.reset);
     let numbers = [row, kind, reset, fields.a, fields.b, fields.c];
-    put_filled(buffer, out, b"# # # # # #\n", numbers)
+    put_filled(rt, buffer, out, b"# # # # # #\n", numbers)
 }
 
 // The lines of the first `rows` rows.
-pub fn put_rows(buffer: &mut [u8], out: Out, file: &[u8], rows: usize) -> Out {
+pub fn put_rows(rt: &impl Streams, buffer: &mut [u8], out: Out, file: &[u8], rows: usize) -> Out {
     let mut now = out;
     let mut row = 0;
     'rows: while row < rows {
-        now = put_row(buffer, now, file, row);
+        now = put_row(rt, buffer, now, file, row);
         row += 1;
     }
     now

@@ -1,4 +1,5 @@
 // A refusal told: its line on standard output, and on standard error a sentence that says what is wrong where, with the values seen; and the values of a run.
+#![tactic(auto)]
 
 pub mod loop_causes;
 pub mod text_causes;
@@ -14,25 +15,27 @@ use pf_words::row_causes::say_row_cause;
 use text::both;
 use text::bytes::{first, get, same};
 use text::out::{one, two};
+use text::streams::Streams;
 use text_causes::{encoding_of, is_text_byte, say_encoding};
 
 const MOST_FILE_BYTES: usize = 262144;
 
 // 1
-fn say_length(file: &[u8]) {
+fn say_length(rt: &impl Streams, file: &[u8]) {
     let size = file.len();
     if MOST_FILE_BYTES < size {
-        say_text(b"the file has more than 262144");
+        say_text(rt, b"the file has more than 262144");
     } else {
-        say(b"the file has #", one(size));
+        say(rt, b"the file has #", one(size));
     }
-    say_text(b" bytes, and a netlist file has 1 to 512 blocks of 512");
+    say_text(rt, b" bytes, and a netlist file has 1 to 512 blocks of 512");
 }
 
 // 11
-fn say_many_rows(file: &[u8]) {
+fn say_many_rows(rt: &impl Streams, file: &[u8]) {
     let rows = row_count(file);
     say(
+        rt,
         b"# rows, and a netlist that is folded has at most 1008",
         one(rows),
     );
@@ -47,9 +50,10 @@ fn register_count(file: &[u8]) -> usize {
 }
 
 // 12
-fn say_many_registers(file: &[u8]) {
+fn say_many_registers(rt: &impl Streams, file: &[u8]) {
     let registers = register_count(file);
     say(
+        rt,
         b"# registers, and a netlist that is folded has at most 256",
         one(registers),
     );
@@ -63,66 +67,70 @@ fn phase_of(file: &[u8], row: usize) -> usize {
 }
 
 // 13
-fn say_phase(file: &[u8], row: usize) {
+fn say_phase(rt: &impl Streams, file: &[u8], row: usize) {
     let phase = phase_of(file, row);
     say(
+        rt,
         b"row #: phase #, so this is a fold already: every phase of a netlist that is to be folded is 0",
         two(row, phase),
     );
 }
 
 // A number that is a word of the call, and what is wrong with it.
-fn say_number(before: &[u8], word: &[u8], after: &[u8]) {
-    say_text(before);
-    say_text(word);
-    say_text(after);
+fn say_number(rt: &impl Streams, before: &[u8], word: &[u8], after: &[u8]) {
+    say_text(rt, before);
+    say_text(rt, word);
+    say_text(rt, after);
 }
 
 // 21
-fn say_no_block(file: &[u8], word: &[u8]) {
-    say_number(b"there is no block ", word, b", the last one is ");
-    say(b"#", one(last_block(file)));
+fn say_no_block(rt: &impl Streams, file: &[u8], word: &[u8]) {
+    say_number(rt, b"there is no block ", word, b", the last one is ");
+    say(rt, b"#", one(last_block(file)));
 }
 
 // 14, 17 and 21, on the word that was given with the call.
-fn say_word_cause(file: &[u8], number: u32, word: &[u8]) {
+fn say_word_cause(rt: &impl Streams, file: &[u8], number: u32, word: &[u8]) {
     match number {
-        14 => say_number(b"the wish ", word, b" is not 0 to 8"),
-        17 => say_number(b"", word, b" steps, and a run has at most 4096"),
-        _ => say_no_block(file, word),
+        14 => say_number(rt, b"the wish ", word, b" is not 0 to 8"),
+        17 => say_number(rt, b"", word, b" steps, and a run has at most 4096"),
+        _ => say_no_block(rt, file, word),
     }
 }
 
 // 10, 15, 16 and 23.
-fn say_plain_cause(number: u32) {
+fn say_plain_cause(rt: &impl Streams, number: u32) {
     match number {
-        10 => say_text(b"there is no output"),
+        10 => say_text(rt, b"there is no output"),
         16 => {
-            say_text(b"states 0 to 256 of the three-valued run all differ, so there is no lasso");
+            say_text(
+                rt,
+                b"states 0 to 256 of the three-valued run all differ, so there is no lasso",
+            );
         }
-        _ => say_text(b"the memory that is lent is too small"),
+        _ => say_text(rt, b"the memory that is lent is too small"),
     }
 }
 
 // 10 to 17, and 21 to 23.
-fn say_other_cause(file: &[u8], number: u32, place: usize, word: &[u8]) {
+fn say_other_cause(rt: &impl Streams, file: &[u8], number: u32, place: usize, word: &[u8]) {
     match number {
-        11 => say_many_rows(file),
-        12 => say_many_registers(file),
-        13 => say_phase(file, place),
-        14 | 17 | 21 => say_word_cause(file, number, word),
-        22 => say_loop(file, place),
-        _ => say_plain_cause(number),
+        11 => say_many_rows(rt, file),
+        12 => say_many_registers(rt, file),
+        13 => say_phase(rt, file, place),
+        14 | 17 | 21 => say_word_cause(rt, file, number, word),
+        22 => say_loop(rt, file, place),
+        _ => say_plain_cause(rt, number),
     }
 }
 
 // All but 18 to 20; `word` is the number that was given with the call.
-pub fn say_cause(file: &[u8], number: u32, place: usize, word: &[u8]) {
+pub fn say_cause(rt: &impl Streams, file: &[u8], number: u32, place: usize, word: &[u8]) {
     match number {
-        1 => say_length(file),
-        2..=5 => say_block_cause(file, number, place),
-        6..=9 => say_row_cause(file, number, place),
-        _ => say_other_cause(file, number, place, word),
+        1 => say_length(rt, file),
+        2..=5 => say_block_cause(rt, file, number, place),
+        6..=9 => say_row_cause(rt, file, number, place),
+        _ => say_other_cause(rt, file, number, place, word),
     }
 }
 
@@ -134,38 +142,52 @@ fn looks_like_text(file: &[u8]) -> bool {
 }
 
 // Of what kind of text a file looks, and what makes a netlist file of that.
-fn say_kind_of_text(file: &[u8]) {
+fn say_kind_of_text(rt: &impl Streams, file: &[u8]) {
     if same(first(file, 4), b"aag ") {
-        say_text(b"; this is an AIGER text, of which pf import makes a netlist file");
+        say_text(
+            rt,
+            b"; this is an AIGER text, of which pf import makes a netlist file",
+        );
     } else if same(first(file, 4), b"aig ") {
         say_text(
+            rt,
             b"; this is binary AIGER: aigtoaig makes a text of it, and pf import of that a netlist file",
         );
     } else {
-        say_text(b"; it looks like text, of which pf make makes a netlist file");
+        say_text(
+            rt,
+            b"; it looks like text, of which pf make makes a netlist file",
+        );
     }
 }
 
 // A file that is refused for its length or its first block may be a text.
-fn say_text_remark(file: &[u8], number: u32) {
+fn say_text_remark(rt: &impl Streams, file: &[u8], number: u32) {
     if 3 < number {
         return;
     }
     if looks_like_text(file) {
-        say_kind_of_text(file);
+        say_kind_of_text(rt, file);
     } else {
-        say_encoding(b"; ", encoding_of(file));
+        say_encoding(rt, b"; ", encoding_of(file));
     }
 }
 
 // A refusal is told; `line` is that of the text that the file is made from, if it is.
-pub fn refuse(path: &[u8], line: usize, file: &[u8], refusal: PfRefusal, word: &[u8]) -> Outcome {
-    let outcome = tell_refusal(refusal);
+pub fn refuse(
+    rt: &impl Streams,
+    path: &[u8],
+    line: usize,
+    file: &[u8],
+    refusal: PfRefusal,
+    word: &[u8],
+) -> Outcome {
+    let outcome = tell_refusal(rt, refusal);
     let place = refusal.place as usize;
-    say_where(path, line);
-    say_cause(file, refusal.number, place, word);
-    say_text_remark(file, refusal.number);
-    say_text(b"\n");
+    say_where(rt, path, line);
+    say_cause(rt, file, refusal.number, place, word);
+    say_text_remark(rt, file, refusal.number);
+    say_text(rt, b"\n");
     outcome
 }
 

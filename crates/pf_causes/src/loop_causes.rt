@@ -3,6 +3,7 @@ use loop_way::Way;
 use pf_words::outcome::{say, say_text};
 use pf_words::rooms::work_room;
 use text::out::{one, two};
+use text::streams::Streams;
 
 // How many gates are named of the way to the loop, and how many of the loop.
 const MOST_BEFORE: usize = 5;
@@ -28,46 +29,47 @@ fn name_of(text: &[u8], row: usize) -> usize {
 }
 
 // The gates in the slots from `from` on, up to `end`; of more than `most` the first ones.
-fn say_gates(text: &[u8], list: &[u8], from: usize, end: usize, most: usize) {
+fn say_gates(rt: &impl Streams, text: &[u8], list: &[u8], from: usize, end: usize, most: usize) {
     let mut at = from;
     let mut left = most;
     'gates: while at < end {
         if left == 0 {
-            say_text(b"..., ");
+            say_text(rt, b"..., ");
             return;
         }
-        say(b"#, ", one(name_of(text, row_in(list, at))));
+        say(rt, b"#, ", one(name_of(text, row_in(list, at))));
         at += 1;
         left -= 1;
     }
 }
 
 // The way to the loop, around it, and where it closes; nothing if there is no way.
-fn say_way(text: &[u8], list: &[u8], way: Way) {
+fn say_way(rt: &impl Streams, text: &[u8], list: &[u8], way: Way) {
     if way.count == 0 {
         return;
     }
-    say_text(b", where each names the next: ");
-    say_gates(text, list, 0, way.start, MOST_BEFORE);
-    say_gates(text, list, way.start, way.count, MOST_AROUND);
-    say(b"#", one(name_of(text, row_in(list, way.start))));
+    say_text(rt, b", where each names the next: ");
+    say_gates(rt, text, list, 0, way.start, MOST_BEFORE);
+    say_gates(rt, text, list, way.start, way.count, MOST_AROUND);
+    say(rt, b"#", one(name_of(text, row_in(list, way.start))));
 }
 
 // The loop that keeps a gate of a file from being placed.
-pub fn say_loop(file: &[u8], row: usize) {
+pub fn say_loop(rt: &impl Streams, file: &[u8], row: usize) {
     let mut list = work_room();
     let way = loop_way::find_way(file, &mut list);
-    say(b"row #: waits for a loop of gates", one(row));
-    say_way(b"", &list, way);
+    say(rt, b"row #: waits for a loop of gates", one(row));
+    say_way(rt, b"", &list, way);
 }
 
 // The same for a gate of an AIGER text.
-pub fn say_text_loop(text: &[u8], literal: usize, row: usize) {
+pub fn say_text_loop(rt: &impl Streams, text: &[u8], literal: usize, row: usize) {
     let mut list = work_room();
     let way = loop_way::find_text_way(text, &mut list);
     say(
+        rt,
         b"gate #, row #, waits for a loop of gates",
         two(literal, row),
     );
-    say_way(text, &list, way);
+    say_way(rt, text, &list, way);
 }

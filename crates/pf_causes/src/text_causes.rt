@@ -2,6 +2,7 @@
 use pf_words::block_causes::is_first_block;
 use pf_words::outcome::say_text;
 use text::bytes::{find, get};
+use text::streams::Streams;
 use text::{both, either};
 
 // How a text is written, by its first bytes: as it is read, behind a byte-order mark, or as UTF-16.
@@ -42,19 +43,21 @@ pub fn encoding_of(text: &[u8]) -> Encoding {
 }
 
 // Says what is wrong with the encoding, with what comes before it; and whether anything is.
-pub fn say_encoding(before: &[u8], encoding: Encoding) -> bool {
+pub fn say_encoding(rt: &impl Streams, before: &[u8], encoding: Encoding) -> bool {
     match encoding {
         Encoding::Plain => false,
         Encoding::Marked => {
-            say_text(before);
+            say_text(rt, before);
             say_text(
+                rt,
                 b"a byte-order mark stands before the text: save it without one, or drop it by tail -c +4",
             );
             true
         }
         Encoding::Wide => {
-            say_text(before);
+            say_text(rt, before);
             say_text(
+                rt,
                 b"this is UTF-16, two bytes for a character: save it as plain text, or use iconv -f UTF-16 -t UTF-8",
             );
             true
@@ -63,22 +66,26 @@ pub fn say_encoding(before: &[u8], encoding: Encoding) -> bool {
 }
 
 // Says what is wrong with a text that make or import is given, and whether anything is.
-pub fn say_text_cause(text: &[u8]) -> bool {
+pub fn say_text_cause(rt: &impl Streams, text: &[u8]) -> bool {
     let size = text.len();
     if size == 0 {
-        say_text(b"the text is empty: what was to write it has failed, or has written elsewhere");
+        say_text(
+            rt,
+            b"the text is empty: what was to write it has failed, or has written elsewhere",
+        );
         return true;
     }
     if is_first_block(text) {
-        say_text(b"this is a netlist file already, and no text");
+        say_text(rt, b"this is a netlist file already, and no text");
         return true;
     }
-    if say_encoding(b"", encoding_of(text)) {
+    if say_encoding(rt, b"", encoding_of(text)) {
         return true;
     }
     let one_line = both(find(text, 0, b'\n') == size, find(text, 0, b'\r') < size);
     if both(is_text_byte(get(text, 0)), one_line) {
         say_text(
+            rt,
             b"the lines end with carriage returns alone: tr '\\r' '\\n' makes line feeds of them",
         );
         return true;

@@ -1,6 +1,7 @@
 // Values 0 and 1: read from a text, refused, run, and put as lines.
 use crate::text_causes::{Encoding, encoding_of, say_encoding};
 use c_answers::{PfCounts, PfRefusal};
+use pf_words::calls::Call;
 use pf_words::outcome::{
     Outcome, fail_at, fail_by_cause, say, say_text, say_where, say_word, tell_refusal,
 };
@@ -9,6 +10,7 @@ use run_answers::RunAnswer;
 use text::bytes::{first, get, is_blank, rest};
 use text::files::Loaded;
 use text::out::{Out, one, put_byte, two};
+use text::streams::Streams;
 
 // ---- read
 
@@ -121,18 +123,18 @@ pub enum Given {
 }
 
 // The values of the text at `source`, at the start of the room.
-pub fn load_values(source: &[u8], room: &mut [u8]) -> Given {
-    match text::files::load(source, room) {
+pub fn load_values(rt: &Call, source: &[u8], room: &mut [u8]) -> Given {
+    match text::files::load(&rt.host, source, room) {
         Loaded::Whole(size) => {
             let encoding = encoding_of(first(room, size));
             Given::Values(read_values(room, size), encoding)
         }
         Loaded::Longer(_) => {
-            fail_at(source, b"longer than 1048576 bytes\n");
+            fail_at(rt, source, b"longer than 1048576 bytes\n");
             Given::None
         }
-        Loaded::Failed => {
-            fail_by_cause(source);
+        Loaded::Failed(cause) => {
+            fail_by_cause(rt, source, cause);
             Given::None
         }
     }
@@ -149,42 +151,53 @@ pub struct Asked {
 }
 
 // Too few values or too many: the sentence has their number, and those of X registers, of inputs and of steps.
-fn say_lists(sentence: &[u8], asked: Asked, count: usize) {
+fn say_lists(rt: &impl Streams, sentence: &[u8], asked: Asked, count: usize) {
     let counts = asked.counts;
     let unknown = counts.unknown as usize;
     let inputs = counts.inputs as usize;
     let times = asked.steps as usize;
-    say(sentence, [count, unknown, inputs, times, 0, 0]);
+    say(rt, sentence, [count, unknown, inputs, times, 0, 0]);
 }
 
 // The first value that is none.
-fn say_value(values: Values) {
+fn say_value(rt: &impl Streams, values: Values) {
     let seen = [values.byte; 1];
-    say(b"value #, counted from 0, is ", one(values.wrong));
-    say_word(&seen);
-    say_text(b", and should be 0 or 1");
+    say(rt, b"value #, counted from 0, is ", one(values.wrong));
+    say_word(rt, &seen);
+    say_text(rt, b", and should be 0 or 1");
 }
 
 // Wrong values, of which there are too few or too many (`lists`, with its sentence) or one is none; a mark before the text, UTF-16 or commas may be the cause.
-fn say_values_cause(source: &[u8], lists: bool, sentence: &[u8], asked: Asked, values: Values) {
+fn say_values_cause(
+    rt: &impl Streams,
+    source: &[u8],
+    lists: bool,
+    sentence: &[u8],
+    asked: Asked,
+    values: Values,
+) {
     let line = if lists { 0 } else { values.wrong_line };
     let encoding = asked.encoding;
-    say_where(source, line);
-    if say_encoding(b"", encoding) {
+    say_where(rt, source, line);
+    if say_encoding(rt, b"", encoding) {
         return;
     }
     if lists {
-        say_lists(sentence, asked, values.count);
+        say_lists(rt, sentence, asked, values.count);
     } else {
-        say_value(values);
+        say_value(rt, values);
     }
     if values.byte == b',' {
-        say_text(b"; a comma counts as a value: values are parted by blanks, or by nothing");
+        say_text(
+            rt,
+            b"; a comma counts as a value: values are parted by blanks, or by nothing",
+        );
     }
 }
 
 // Values are refused, for their number or for one of them.
 pub fn refuse_values(
+    rt: &impl Streams,
     refusal: PfRefusal,
     source: &[u8],
     lists: bool,
@@ -192,20 +205,21 @@ pub fn refuse_values(
     asked: Asked,
     values: Values,
 ) -> Outcome {
-    let outcome = tell_refusal(refusal);
-    say_values_cause(source, lists, sentence, asked, values);
-    say_text(b"\n");
+    let outcome = tell_refusal(rt, refusal);
+    say_values_cause(rt, source, lists, sentence, asked, values);
+    say_text(rt, b"\n");
     outcome
 }
 
 // A run is refused for its memory, with 20.
-pub fn refuse_memory(refusal: PfRefusal, path: &[u8], asked: Asked) -> Outcome {
-    let outcome = tell_refusal(refusal);
+pub fn refuse_memory(rt: &impl Streams, refusal: PfRefusal, path: &[u8], asked: Asked) -> Outcome {
+    let outcome = tell_refusal(rt, refusal);
     let counts = asked.counts;
     let times = asked.steps as usize;
     let outputs = counts.outputs as usize;
-    say_where(path, 0);
+    say_where(rt, path, 0);
     say(
+        rt,
         b"# steps of # outputs are more than the 1048576 values that pf has room for\n",
         two(times, outputs),
     );
@@ -220,23 +234,30 @@ fn digit_of(value: u8) -> u8 {
 }
 
 // The values of a step.
-pub fn put_step(buffer: &mut [u8], out: Out, values: &[u8]) -> Out {
+pub fn put_step(rt: &impl Streams, buffer: &mut [u8], out: Out, values: &[u8]) -> Out {
     let mut now = out;
     let mut i = 0;
     'values: while i < values.len() {
-        now = put_byte(buffer, now, digit_of(values[i]));
+        now = put_byte(rt, buffer, now, digit_of(values[i]));
         i += 1;
     }
-    put_byte(buffer, now, b'\n')
+    put_byte(rt, buffer, now, b'\n')
 }
 
 // The lines of all steps, of which each has `width` values.
-pub fn put_steps(buffer: &mut [u8], out: Out, values: &[u8], steps: u32, width: usize) -> Out {
+pub fn put_steps(
+    rt: &impl Streams,
+    buffer: &mut [u8],
+    out: Out,
+    values: &[u8],
+    steps: u32,
+    width: usize,
+) -> Out {
     let mut now = out;
     let mut at = 0;
     let mut step: u32 = 0;
     'steps: while step < steps {
-        now = put_step(buffer, now, first(rest(values, at), width));
+        now = put_step(rt, buffer, now, first(rest(values, at), width));
         at = std::num::wrapping_add_usize(at, width);
         step += 1;
     }

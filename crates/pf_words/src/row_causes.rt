@@ -4,96 +4,97 @@ use blockfile::Fields;
 use listing::rows::{fields_of, row_count};
 use text::bytes::wide;
 use text::out::{one, three, two};
+use text::streams::Streams;
 
 // The name of a kind.
-fn say_kind(kind: u8) {
+fn say_kind(rt: &impl Streams, kind: u8) {
     match kind {
-        0 => say_text(b"constant"),
-        1 => say_text(b"input"),
-        2 => say_text(b"register"),
-        3 => say_text(b"AND"),
-        4 => say_text(b"XOR"),
-        5 => say_text(b"MUX"),
-        _ => say_text(b"output"),
+        0 => say_text(rt, b"constant"),
+        1 => say_text(rt, b"input"),
+        2 => say_text(rt, b"register"),
+        3 => say_text(rt, b"AND"),
+        4 => say_text(rt, b"XOR"),
+        5 => say_text(rt, b"MUX"),
+        _ => say_text(rt, b"output"),
     }
 }
 
 // ---- 6
 
 // What is wrong with a kind that is 0 to 6.
-fn say_misplaced(row: usize, kind: u8) {
+fn say_misplaced(rt: &impl Streams, row: usize, kind: u8) {
     if row == 0 {
-        say_text(b", and row 0 is the constant, kind 0");
+        say_text(rt, b", and row 0 is the constant, kind 0");
     } else if kind == 0 {
-        say_text(b", the constant, is for row 0 alone");
+        say_text(rt, b", the constant, is for row 0 alone");
     } else {
-        say_text(b" is a node, and comes after an output");
+        say_text(rt, b" is a node, and comes after an output");
     }
 }
 
 // A kind that is not allowed there.
-fn say_kind_cause(row: usize, kind: u8) {
-    say(b"row #: kind #", two(row, wide(kind)));
+fn say_kind_cause(rt: &impl Streams, row: usize, kind: u8) {
+    say(rt, b"row #: kind #", two(row, wide(kind)));
     if 6 < kind {
-        say_text(b" is not 0 to 6");
+        say_text(rt, b" is not 0 to 6");
     } else {
-        say_misplaced(row, kind);
+        say_misplaced(rt, row, kind);
     }
 }
 
 // ---- 7
 
 // A field that the kind does not use.
-fn say_unused_field(row: usize, name: &[u8], value: usize, kind: u8) {
-    say(b"row #: ", one(row));
-    say_text(name);
-    say(b" is #, and has no use in kind ", one(value));
-    say_kind(kind);
+fn say_unused_field(rt: &impl Streams, row: usize, name: &[u8], value: usize, kind: u8) {
+    say(rt, b"row #: ", one(row));
+    say_text(rt, name);
+    say(rt, b" is #, and has no use in kind ", one(value));
+    say_kind(rt, kind);
 }
 
 // A phase out of range.
-fn say_phase(row: usize, phase: usize) {
-    say(b"row #: phase # is not 0 to 7", two(row, phase));
+fn say_phase(rt: &impl Streams, row: usize, phase: usize) {
+    say(rt, b"row #: phase # is not 0 to 7", two(row, phase));
 }
 
 // A reset out of range.
-fn say_reset(row: usize, reset: u8, kind: u8) {
+fn say_reset(rt: &impl Streams, row: usize, reset: u8, kind: u8) {
     let value = wide(reset);
     if kind == 2 {
-        say(b"row #: reset # is not 0, 1 or 2", two(row, value));
+        say(rt, b"row #: reset # is not 0, 1 or 2", two(row, value));
     } else {
-        say_unused_field(row, b"reset", value, kind);
+        say_unused_field(rt, row, b"reset", value, kind);
     }
 }
 
 // A constant's first field that is not 0.
-fn say_constant_field(row: usize, fields: Fields) {
+fn say_constant_field(rt: &impl Streams, row: usize, fields: Fields) {
     if fields.a != 0 {
-        say_unused_field(row, b"a", fields.a, 0);
+        say_unused_field(rt, row, b"a", fields.a, 0);
     } else if fields.b != 0 {
-        say_unused_field(row, b"b", fields.b, 0);
+        say_unused_field(rt, row, b"b", fields.b, 0);
     } else {
-        say_unused_field(row, b"c", fields.c, 0);
+        say_unused_field(rt, row, b"c", fields.c, 0);
     }
 }
 
 // An input's phase, or its field c.
-fn say_input_field(row: usize, fields: Fields) {
+fn say_input_field(rt: &impl Streams, row: usize, fields: Fields) {
     if 7 < fields.b {
-        say_phase(row, fields.b);
+        say_phase(rt, row, fields.b);
     } else {
-        say_unused_field(row, b"c", fields.c, 1);
+        say_unused_field(rt, row, b"c", fields.c, 1);
     }
 }
 
 // The reset is right.
-fn say_field(row: usize, fields: Fields) {
+fn say_field(rt: &impl Streams, row: usize, fields: Fields) {
     let kind = fields.kind;
     match kind {
-        0 => say_constant_field(row, fields),
-        1 => say_input_field(row, fields),
-        6 => say_phase(row, fields.c),
-        _ => say_unused_field(row, b"c", fields.c, kind),
+        0 => say_constant_field(rt, row, fields),
+        1 => say_input_field(rt, row, fields),
+        6 => say_phase(rt, row, fields.c),
+        _ => say_unused_field(rt, row, b"c", fields.c, kind),
     }
 }
 
@@ -103,13 +104,13 @@ fn reset_right(reset: u8, kind: u8) -> bool {
 }
 
 // The first field that is wrong.
-fn say_field_cause(row: usize, fields: Fields) {
+fn say_field_cause(rt: &impl Streams, row: usize, fields: Fields) {
     let kind = fields.kind;
     let reset = fields.reset;
     if reset_right(reset, kind) {
-        say_field(row, fields);
+        say_field(rt, row, fields);
     } else {
-        say_reset(row, reset, kind);
+        say_reset(rt, row, reset, kind);
     }
 }
 
@@ -156,22 +157,22 @@ fn first_named(file: &[u8], fields: Fields, row: usize) -> usize {
 }
 
 // Label and phase; a register has no phase.
-fn say_name(fields: Fields) {
+fn say_name(rt: &impl Streams, fields: Fields) {
     let label = label_in(fields);
     if fields.kind == 2 {
-        say(b" label #", one(label));
+        say(rt, b" label #", one(label));
     } else {
-        say(b" label # phase #", two(label, phase_in(fields)));
+        say(rt, b" label # phase #", two(label, phase_in(fields)));
     }
 }
 
 // A name that an earlier row has.
-fn say_label_cause(file: &[u8], row: usize, fields: Fields) {
+fn say_label_cause(rt: &impl Streams, file: &[u8], row: usize, fields: Fields) {
     let earlier = first_named(file, fields, row);
-    say(b"row #: ", one(row));
-    say_kind(fields.kind);
-    say_name(fields);
-    say(b" is taken by row #", one(earlier));
+    say(rt, b"row #: ", one(row));
+    say_kind(rt, fields.kind);
+    say_name(rt, fields);
+    say(rt, b" is taken by row #", one(earlier));
 }
 
 // ---- 9
@@ -241,30 +242,39 @@ pub fn first_own(file: &[u8], row: usize) -> usize {
 }
 
 // A gate's operand that is no earlier row; where it is the gate itself, no order helps.
-fn say_late_operand(row: usize, literal: usize) {
+fn say_late_operand(rt: &impl Streams, row: usize, literal: usize) {
     let named = literal / 2;
     say(
+        rt,
         b"row #: literal # names row #, ",
         three(row, literal, named),
     );
     if named == row {
-        say_text(b"the gate itself: a loop, which no order mends; it needs a register");
+        say_text(
+            rt,
+            b"the gate itself: a loop, which no order mends; it needs a register",
+        );
     } else {
-        say_text(b"and a gate's operands name earlier rows; pf sort puts gates in order");
+        say_text(
+            rt,
+            b"and a gate's operands name earlier rows; pf sort puts gates in order",
+        );
     }
 }
 
 // A literal that names no node.
-fn say_named_row(file: &[u8], row: usize, literal: usize) {
+fn say_named_row(rt: &impl Streams, file: &[u8], row: usize, literal: usize) {
     let rows = row_count(file);
     let named = literal / 2;
     if named < rows {
         say(
+            rt,
             b"row #: literal # names row #, which is an output",
             three(row, literal, named),
         );
     } else {
         say(
+            rt,
             b"row #: literal # names row #, and there are # rows",
             [row, literal, named, rows, 0, 0],
         );
@@ -272,31 +282,31 @@ fn say_named_row(file: &[u8], row: usize, literal: usize) {
 }
 
 // A gate's operand that names no node; else one that is no earlier row.
-fn say_gate_cause(file: &[u8], row: usize, fields: Fields) {
+fn say_gate_cause(rt: &impl Streams, file: &[u8], row: usize, fields: Fields) {
     let strange = strange_operand(file, fields);
     if names_node(file, strange) {
-        say_late_operand(row, late_operand(fields, row));
+        say_late_operand(rt, row, late_operand(fields, row));
     } else {
-        say_named_row(file, row, strange);
+        say_named_row(rt, file, row, strange);
     }
 }
 
 // The first literal that is wrong.
-fn say_literal_cause(file: &[u8], row: usize, fields: Fields) {
+fn say_literal_cause(rt: &impl Streams, file: &[u8], row: usize, fields: Fields) {
     let kind = fields.kind;
     match kind {
-        3..=5 => say_gate_cause(file, row, fields),
-        _ => say_named_row(file, row, fields.a),
+        3..=5 => say_gate_cause(rt, file, row, fields),
+        _ => say_named_row(rt, file, row, fields.a),
     }
 }
 
 // The sentence of a refusal of this number at a row.
-pub fn say_row_cause(file: &[u8], number: u32, row: usize) {
+pub fn say_row_cause(rt: &impl Streams, file: &[u8], number: u32, row: usize) {
     let fields = fields_of(file, row);
     match number {
-        6 => say_kind_cause(row, fields.kind),
-        7 => say_field_cause(row, fields),
-        8 => say_label_cause(file, row, fields),
-        _ => say_literal_cause(file, row, fields),
+        6 => say_kind_cause(rt, row, fields.kind),
+        7 => say_field_cause(rt, row, fields),
+        8 => say_label_cause(rt, file, row, fields),
+        _ => say_literal_cause(rt, file, row, fields),
     }
 }

@@ -1,60 +1,106 @@
-// A result kept in a file. The script opens two descriptors for it: what stands at the result's name, or nothing if there is no file yet; and the file that then takes its place.
+// A result kept in a file. The script opens two descriptors for it: what stands at the result's name, or nothing if there is no file yet; and the file that then takes its place, which is empty. Both are opened again by their names here. A result for standard output goes there itself, behind what others have written.
 use crate::block_causes::is_first_block;
-use crate::outcome::{Outcome, fail_at, fail_by_cause, outcome_if};
+use crate::calls::Call;
+use crate::outcome::{OUTPUT, Outcome, fail_at, fail_by_cause, outcome_if};
+use std::fs::{Files, OpenFile, OpenOptions};
+use std::io::Write;
+use std::{fs, io};
 use text::bytes::{first, same};
-use text::files::{Loaded, load_from};
+use text::files::{Loaded, load};
+use text::streams::Streams;
 
-const OLD: i32 = 5;
+const OLD: &[u8] = b"/proc/self/fd/5";
 
-const NEW: i32 = 6;
+const NEW: &str = "/proc/self/fd/6";
 
-// Whether all bytes are on their device; what is no plain file has none.
-fn synced() -> bool {
-    if 0 <= libc::fsync(NEW) {
-        return true;
+const PRINTED: &str = "/proc/self/fd/1";
+
+// The system's number of the error that what is no plain file is on no device.
+const NO_DEVICE: i32 = 22;
+
+// All bytes are on their device then; what is no plain file has none.
+fn synced<F: OpenFile>(file: &F) -> io::Result<()> {
+    match file.sync_all() {
+        Ok(()) => Ok(()),
+        Err(cause) if cause.raw_os_error() == Some(NO_DEVICE) => Ok(()),
+        Err(cause) => Err(cause),
     }
-    os::errno() == libc::EINVAL
+}
+
+// The file of this name, to be written where it begins.
+fn open_written<R: Files>(rt: &R, name: &str) -> io::Result<R::File> {
+    OpenOptions::new().write(true).open(rt, name)
 }
 
 // The result is written.
-fn write_new(bytes: &[u8]) -> bool {
-    if io::write_all(NEW, bytes) {
-        synced()
+fn write_new<R: Files>(rt: &R, bytes: &[u8]) -> io::Result<()> {
+    let mut file = open_written(rt, NEW)?;
+    file.write_all(bytes)?;
+    synced(&file)
+}
+
+// Whether standard output is a plain file. No other is opened again: that of a pipe which nobody reads any more would wait for a reader.
+fn prints_to_file<R: Files>(rt: &R) -> bool {
+    match fs::metadata(rt, PRINTED) {
+        Ok(found) => found.is_file(),
+        Err(_) => false,
+    }
+}
+
+// Whether all that standard output has is on its device, if it is a plain file that this process may open.
+fn output_synced<R: Files>(rt: &R) -> bool {
+    if !prints_to_file(rt) {
+        return true;
+    }
+    match open_written(rt, PRINTED) {
+        Ok(file) => synced(&file).is_ok(),
+        Err(_) => true,
+    }
+}
+
+// The result is written to standard output; whether that went well.
+fn write_output(rt: &(impl Streams + Files), bytes: &[u8]) -> bool {
+    if rt.write_to(OUTPUT, bytes) {
+        output_synced(rt)
     } else {
         false
     }
 }
 
 // The same; a failure is told with the result's name.
-fn save_new(path: &[u8], bytes: &[u8]) -> Outcome {
-    if write_new(bytes) {
-        return Outcome::Done;
-    }
+fn save_new(rt: &Call, path: &[u8], bytes: &[u8]) -> Outcome {
     if same(path, b"-") {
-        outcome_if(false, Outcome::Done)
-    } else {
-        fail_by_cause(path)
+        let right = write_output(&rt.host, bytes);
+        return outcome_if(rt, right, Outcome::Done);
+    }
+    match write_new(&rt.host, bytes) {
+        Ok(()) => Outcome::Done,
+        Err(cause) => fail_by_cause(rt, path, cause),
     }
 }
 
 // Only an empty file, or one that begins as a netlist file does, is replaced.
-fn save_over(path: &[u8], old: &[u8], bytes: &[u8]) -> Outcome {
+fn save_over(rt: &Call, path: &[u8], old: &[u8], bytes: &[u8]) -> Outcome {
     if old.len() == 0 {
-        return save_new(path, bytes);
+        return save_new(rt, path, bytes);
     }
     if is_first_block(old) {
-        save_new(path, bytes)
+        save_new(rt, path, bytes)
     } else {
-        fail_at(path, b"is no netlist file, and is not replaced by one\n")
+        fail_at(
+            rt,
+            path,
+            b"is no netlist file, and is not replaced by one\n",
+        )
     }
 }
 
 // The bytes become the file at `path`, if what stands there may be replaced.
-pub fn save(path: &[u8], bytes: &[u8]) -> Outcome {
+pub fn save(rt: &Call, path: &[u8], bytes: &[u8]) -> Outcome {
     let mut room = [0u8; 512];
-    match load_from(OLD, &mut room) {
-        Loaded::Whole(size) => save_over(path, first(&room, size), bytes),
-        Loaded::Longer(size) => save_over(path, first(&room, size), bytes),
-        Loaded::Failed => fail_by_cause(path),
+    match load(&rt.host, OLD, &mut room) {
+        Loaded::Whole(size) => save_over(rt, path, first(&room, size), bytes),
+        Loaded::Longer(size) => save_over(rt, path, first(&room, size), bytes),
+        Loaded::Failed(cause) => fail_by_cause(rt, path, cause),
     }
 }

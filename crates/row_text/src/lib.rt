@@ -1,4 +1,6 @@
 // The rows of a text: a line a row, with its number, kind, reset, a, b and c. What follows # in a line is a remark, and a line without anything else says nothing.
+#![tactic(auto)]
+
 ghost use Rattle.std.specs.Prelude.{◌^◌, ◌<◌};
 ghost use Rattle.blockfile.specs.RowCode.{Small};
 
