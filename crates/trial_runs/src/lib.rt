@@ -1,4 +1,6 @@
 // A file and its fold run side by side: the outputs are compared phase by phase. A sorted file beside the one that it was made from, an imported one beside its text: step by step.
+#![tactic(auto)]
+
 use reference_rows::rows::{Row, count_kind, row_at, rows_of, work_for};
 use run_answers::RunAnswer;
 use text::both;

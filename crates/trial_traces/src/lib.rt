@@ -1,4 +1,6 @@
 // Trace of a file by the product and by the reference: answers, every byte of trace, result and work. Then the file is run on the trace, and the fold on what was given, and the outputs are compared phase by phase.
+#![tactic(auto)]
+
 use reference_fold::{Folded, Lent};
 use reference_rows::rows::{count_kind, length_of, rows_of};
 use reference_trace::Traced;
