@@ -6,13 +6,14 @@ use scripted_files::bytes::{one_if, size_at};
 use text::both;
 use text::bytes::{first, get, rest, same};
 use text::numbers::number_at;
+use text::streams::Streams;
 
 // Check SIZE is NUMBER PLACE
-fn try_check(tally: Tally, numbers: &[u32], file: &[u8]) -> Tally {
+fn try_check(rt: &impl Streams, tally: Tally, numbers: &[u32], file: &[u8]) -> Tally {
     let size = size_at(numbers, 1);
     let expected = Seen(number_at(numbers, 3), number_at(numbers, 4));
     let value = crate::tell::of_check(accept::accept(first(file, size)));
-    crate::tell::outcome(tally, value, expected, true)
+    crate::tell::outcome(rt, tally, value, expected, true)
 }
 
 // How many of the lengths up to `longest` are accepted.
@@ -30,10 +31,10 @@ fn count_accepted(file: &[u8], longest: u16) -> u32 {
 }
 
 // Lengths LONGEST is COUNT
-fn try_lengths(tally: Tally, numbers: &[u32], file: &[u8]) -> Tally {
+fn try_lengths(rt: &impl Streams, tally: Tally, numbers: &[u32], file: &[u8]) -> Tally {
     let longest = scripted_files::bytes::field_at(numbers, 1);
     let accepted = count_accepted(file, longest);
-    crate::tell::number(tally, accepted, number_at(numbers, 3))
+    crate::tell::number(rt, tally, accepted, number_at(numbers, 3))
 }
 
 // 1 if the first `blocks` blocks are refused with 3 at the last of them.
@@ -56,10 +57,10 @@ fn count_cuts(file: &[u8], most: u16) -> u32 {
 }
 
 // Blocks MOST is COUNT
-fn try_blocks(tally: Tally, numbers: &[u32], file: &[u8]) -> Tally {
+fn try_blocks(rt: &impl Streams, tally: Tally, numbers: &[u32], file: &[u8]) -> Tally {
     let most = scripted_files::bytes::field_at(numbers, 1);
     let refused = count_cuts(file, most);
-    crate::tell::number(tally, refused, number_at(numbers, 3))
+    crate::tell::number(rt, tally, refused, number_at(numbers, 3))
 }
 
 // One bit of the first block changes: bit i mod 8 of byte i / 8.
@@ -92,9 +93,9 @@ fn count_refused(file: &mut [u8]) -> u32 {
 }
 
 // Flips 512 is COUNT
-fn try_flips(tally: Tally, numbers: &[u32], file: &mut [u8]) -> Tally {
+fn try_flips(rt: &impl Streams, tally: Tally, numbers: &[u32], file: &mut [u8]) -> Tally {
     let refused = count_refused(file);
-    crate::tell::number(tally, refused, number_at(numbers, 3))
+    crate::tell::number(rt, tally, refused, number_at(numbers, 3))
 }
 
 // The word of 32 bits at `at`.
@@ -109,19 +110,19 @@ fn word_at(file: &[u8], at: usize) -> u32 {
 }
 
 // Word AT is VALUE
-fn try_word(tally: Tally, numbers: &[u32], file: &[u8]) -> Tally {
+fn try_word(rt: &impl Streams, tally: Tally, numbers: &[u32], file: &[u8]) -> Tally {
     let word = word_at(file, size_at(numbers, 1));
-    crate::tell::number(tally, word, number_at(numbers, 3))
+    crate::tell::number(rt, tally, word, number_at(numbers, 3))
 }
 
 // ---- Count
 
-fn print_counts(counts: Counts) {
-    crate::tell::print_number(counts.nodes as u64);
-    crate::tell::print_number(counts.inputs as u64);
-    crate::tell::print_number(counts.registers as u64);
-    crate::tell::print_number(counts.unknown as u64);
-    crate::tell::print_number(counts.outputs as u64);
+fn print_counts(rt: &impl Streams, counts: Counts) {
+    crate::tell::print_number(rt, counts.nodes as u64);
+    crate::tell::print_number(rt, counts.inputs as u64);
+    crate::tell::print_number(rt, counts.registers as u64);
+    crate::tell::print_number(rt, counts.unknown as u64);
+    crate::tell::print_number(rt, counts.outputs as u64);
 }
 
 fn counts_right(counts: Counts, numbers: &[u32]) -> bool {
@@ -135,26 +136,26 @@ fn counts_right(counts: Counts, numbers: &[u32]) -> bool {
 }
 
 // Numbers SIZE is NODES INPUTS REGISTERS UNKNOWN OUTPUTS, of a file that Count accepts
-fn try_counts(tally: Tally, numbers: &[u32], file: &[u8]) -> Tally {
+fn try_counts(rt: &impl Streams, tally: Tally, numbers: &[u32], file: &[u8]) -> Tally {
     let size = size_at(numbers, 1);
     match count::count(first(file, size)) {
         CountAnswer::Counted(counts) => {
-            print_counts(counts);
-            crate::tell::judged(tally, counts_right(counts, numbers))
+            print_counts(rt, counts);
+            crate::tell::judged(rt, tally, counts_right(counts, numbers))
         }
-        CountAnswer::Refused(_) => crate::tell::judged(tally, false),
+        CountAnswer::Refused(_) => crate::tell::judged(rt, tally, false),
     }
 }
 
 // Uncounted SIZE is NUMBER PLACE, of a file that Count refuses
-fn try_uncounted(tally: Tally, numbers: &[u32], file: &[u8]) -> Tally {
+fn try_uncounted(rt: &impl Streams, tally: Tally, numbers: &[u32], file: &[u8]) -> Tally {
     let size = size_at(numbers, 1);
     let expected = Seen(number_at(numbers, 3), number_at(numbers, 4));
     match count::count(first(file, size)) {
-        CountAnswer::Counted(_) => crate::tell::judged(tally, false),
+        CountAnswer::Counted(_) => crate::tell::judged(rt, tally, false),
         CountAnswer::Refused(refusal) => {
             let value = crate::tell::of_file(refusal);
-            crate::tell::outcome(tally, value, expected, true)
+            crate::tell::outcome(rt, tally, value, expected, true)
         }
     }
 }
@@ -170,7 +171,7 @@ fn part_right(file: &[u8], block: u32, shown: &[u8], number: u32) -> bool {
 }
 
 // Show SIZE BLOCK is NUMBER PLACE; number and place hold something else before.
-fn try_show(tally: Tally, numbers: &[u32], file: &[u8]) -> Tally {
+fn try_show(rt: &impl Streams, tally: Tally, numbers: &[u32], file: &[u8]) -> Tally {
     let netlist = first(file, size_at(numbers, 1));
     let block = number_at(numbers, 2);
     let expected = Seen(number_at(numbers, 4), number_at(numbers, 5));
@@ -178,19 +179,25 @@ fn try_show(tally: Tally, numbers: &[u32], file: &[u8]) -> Tally {
     let mut place: u32 = 77;
     let shown = show::show(netlist, block, &mut number, &mut place);
     let right = part_right(file, block, shown, number);
-    crate::tell::outcome(tally, Seen(number, place), expected, right)
+    crate::tell::outcome(rt, tally, Seen(number, place), expected, right)
 }
 
-pub fn obey(letter: u8, numbers: &[u32], file: &mut [u8], tally: Tally) -> Tally {
+pub fn obey(
+    rt: &impl Streams,
+    letter: u8,
+    numbers: &[u32],
+    file: &mut [u8],
+    tally: Tally,
+) -> Tally {
     match letter {
-        b'C' => try_check(tally, numbers, file),
-        b'L' => try_lengths(tally, numbers, file),
-        b'B' => try_blocks(tally, numbers, file),
-        b'F' => try_flips(tally, numbers, file),
-        b'W' => try_word(tally, numbers, file),
-        b'N' => try_counts(tally, numbers, file),
-        b'U' => try_uncounted(tally, numbers, file),
-        b'S' => try_show(tally, numbers, file),
+        b'C' => try_check(rt, tally, numbers, file),
+        b'L' => try_lengths(rt, tally, numbers, file),
+        b'B' => try_blocks(rt, tally, numbers, file),
+        b'F' => try_flips(rt, tally, numbers, file),
+        b'W' => try_word(rt, tally, numbers, file),
+        b'N' => try_counts(rt, tally, numbers, file),
+        b'U' => try_uncounted(rt, tally, numbers, file),
+        b'S' => try_show(rt, tally, numbers, file),
         _ => tally,
     }
 }

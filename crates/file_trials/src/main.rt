@@ -1,7 +1,12 @@
 // Check, Count, Show, Sort and Run tried on real files, as the script on standard input says: each line of a trial is printed with what is seen.
+#![tactic(auto)]
+
 ghost use Rattle.std.specs.Prelude.{◌≡◌, length};
 
+use std::io::Input;
 use tell::Tally;
+use text::out::write_all;
+use text::streams::Streams;
 
 mod files;
 mod runs;
@@ -22,36 +27,44 @@ fn list_room() -> [u8; 20000]
 }
 
 // The lines of a trial begin with a capital letter and go on with what is seen; titles stand alone.
-fn echo(letter: u8, line: &[u8]) {
+fn echo(rt: &impl Streams, letter: u8, line: &[u8]) {
     match letter {
         b'A'..=b'Z' => {
-            io::write_all(1, line);
-            io::write_all(1, b":");
+            write_all(rt, 1, line);
+            write_all(rt, 1, b":");
         }
         b'#' => {
-            io::write_all(1, line);
-            io::write_all(1, b"\n");
+            write_all(rt, 1, line);
+            write_all(rt, 1, b"\n");
         }
         _ => {}
     }
 }
 
 // `done` ends a group.
-fn finish(letter: u8, tally: Tally) -> Tally {
+fn finish(rt: &impl Streams, letter: u8, tally: Tally) -> Tally {
     match letter {
-        b'd' => tell::total(tally),
+        b'd' => tell::total(rt, tally),
         _ => tally,
     }
 }
 
 // Builds a file, or tries Check, Count or Show.
-fn obey_file(letter: u8, numbers: &[u32], file: &mut [u8], kept: &mut [u8], tally: Tally) -> Tally {
+fn obey_file(
+    rt: &impl Streams,
+    letter: u8,
+    numbers: &[u32],
+    file: &mut [u8],
+    kept: &mut [u8],
+    tally: Tally,
+) -> Tally {
     scripted_files::build::obey(letter, numbers, file, kept);
-    files::obey(letter, numbers, file, tally)
+    files::obey(rt, letter, numbers, file, tally)
 }
 
 // Fills a list, or tries Run.
 fn obey_run(
+    rt: &impl Streams,
     letter: u8,
     line: &[u8],
     numbers: &[u32],
@@ -62,10 +75,11 @@ fn obey_run(
     tally: Tally,
 ) -> Tally {
     runs::obey_lists(letter, numbers, inputs, choices);
-    runs::obey(letter, line, numbers, file, choices, inputs, res, tally)
+    runs::obey(rt, letter, line, numbers, file, choices, inputs, res, tally)
 }
 
 fn obey_line(
+    rt: &impl Streams,
     line: &[u8],
     file: &mut [u8],
     kept: &mut [u8],
@@ -78,15 +92,18 @@ fn obey_line(
     let numbers: &mut [u32] = &mut words;
     let letter = text::bytes::get(line, 0);
     scripted_files::script::read_numbers(line, numbers);
-    echo(letter, line);
-    let tried = obey_file(letter, numbers, file, kept, tally);
-    let sorted = sorts::obey(letter, numbers, file, kept, res, tried);
-    let ran = obey_run(letter, line, numbers, file, inputs, choices, res, sorted);
-    finish(letter, ran)
+    echo(rt, letter, line);
+    let tried = obey_file(rt, letter, numbers, file, kept, tally);
+    let sorted = sorts::obey(rt, letter, numbers, file, kept, res, tried);
+    let ran = obey_run(
+        rt, letter, line, numbers, file, inputs, choices, res, sorted,
+    );
+    finish(rt, letter, ran)
 }
 
 // No script has more lines than turns.
 fn obey_script(
+    rt: &impl Streams,
     text: &[u8],
     file: &mut [u8],
     kept: &mut [u8],
@@ -102,16 +119,16 @@ fn obey_script(
             return;
         }
         let line = scripted_files::script::line_at(text, start);
-        tally = obey_line(line, file, kept, inputs, choices, res, tally);
+        tally = obey_line(rt, line, file, kept, inputs, choices, res, tally);
         let size = std::num::wrapping_add_usize(line.len(), 1);
         start = std::num::wrapping_add_usize(start, size);
         turns -= 1;
     }
 }
 
-fn main() {
-    let mut input = io::large_buffer();
-    let size = io::read_full(0, &mut input);
+fn main(rt: HostRuntime) {
+    let mut input = text::rooms::large_buffer();
+    let size = text::files::read_full(&mut rt.reader(), &mut input);
     let text = &input[..size];
     let mut files = file_room();
     let mut kept = file_room();
@@ -119,6 +136,7 @@ fn main() {
     let mut choices = list_room();
     let mut results = file_room();
     obey_script(
+        &rt,
         text,
         &mut files,
         &mut kept,

@@ -6,6 +6,7 @@ use scripted_files::bytes::{all_from, byte_at, one_if, size_at};
 use text::both;
 use text::bytes::{first, get, least, put};
 use text::numbers::number_at;
+use text::streams::Streams;
 
 // What result and work hold before a run.
 pub const RESULT_FILL: u8 = 170;
@@ -97,6 +98,7 @@ fn left_right(numbers: &[u32], res: &[u8], work: &[u8]) -> bool {
 
 // Run SIZE STEPS CHOICES INPUTS RESULT WORK is NUMBER PLACE WRITTEN
 fn try_run(
+    rt: &impl Streams,
     tally: Tally,
     numbers: &[u32],
     file: &[u8],
@@ -110,7 +112,7 @@ fn try_run(
     let value = run_lent(numbers, file, choices, inputs, res, work);
     let right = left_right(numbers, res, work);
     let expected = Seen(number_at(numbers, 8), number_at(numbers, 9));
-    crate::tell::outcome(tally, value, expected, right)
+    crate::tell::outcome(rt, tally, value, expected, right)
 }
 
 // ---- what it wrote
@@ -139,9 +141,9 @@ fn count_digits(line: &[u8], start: usize, res: &[u8]) -> u32 {
 }
 
 // Digits COUNT DIGITS: the digits begin at byte 10 of the line.
-fn try_digits(tally: Tally, line: &[u8], numbers: &[u32], res: &[u8]) -> Tally {
+fn try_digits(rt: &impl Streams, tally: Tally, line: &[u8], numbers: &[u32], res: &[u8]) -> Tally {
     let right = count_digits(line, 10, res);
-    crate::tell::number(tally, right, number_at(numbers, 1))
+    crate::tell::number(rt, tally, right, number_at(numbers, 1))
 }
 
 // What the sample shows at step t: the input of the last odd step but one before it, and 0 up to step 2.
@@ -166,12 +168,13 @@ fn count_shown(res: &[u8], steps: usize) -> u32 {
 }
 
 // Values STEPS is COUNT, of a run of the sample
-fn try_values(tally: Tally, numbers: &[u32], res: &[u8]) -> Tally {
+fn try_values(rt: &impl Streams, tally: Tally, numbers: &[u32], res: &[u8]) -> Tally {
     let right = count_shown(res, size_at(numbers, 1));
-    crate::tell::number(tally, right, number_at(numbers, 3))
+    crate::tell::number(rt, tally, right, number_at(numbers, 3))
 }
 
 pub fn obey(
+    rt: &impl Streams,
     letter: u8,
     line: &[u8],
     numbers: &[u32],
@@ -182,9 +185,9 @@ pub fn obey(
     tally: Tally,
 ) -> Tally {
     match letter {
-        b'R' => try_run(tally, numbers, file, choices, inputs, res),
-        b'D' => try_digits(tally, line, numbers, res),
-        b'V' => try_values(tally, numbers, res),
+        b'R' => try_run(rt, tally, numbers, file, choices, inputs, res),
+        b'D' => try_digits(rt, tally, line, numbers, res),
+        b'V' => try_values(rt, tally, numbers, res),
         _ => tally,
     }
 }

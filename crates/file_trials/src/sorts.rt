@@ -6,6 +6,7 @@ use sort_answers::Sorting;
 use text::both;
 use text::bytes::{first, least, rest, same};
 use text::numbers::number_at;
+use text::streams::Streams;
 
 // Sort in buffers as long as the line says.
 fn sort_lent(numbers: &[u32], file: &[u8], res: &mut [u8], work: &mut [u8]) -> Sorting {
@@ -26,7 +27,14 @@ fn result_right(numbers: &[u32], expected: &[u8], res: &[u8]) -> bool {
 }
 
 // Order SIZE RESULT WORK is NUMBER PLACE ROWS; where it is done, the file that was kept is expected.
-fn try_sort(tally: Tally, numbers: &[u32], file: &[u8], expected: &[u8], res: &mut [u8]) -> Tally {
+fn try_sort(
+    rt: &impl Streams,
+    tally: Tally,
+    numbers: &[u32],
+    file: &[u8],
+    expected: &[u8],
+    res: &mut [u8],
+) -> Tally {
     let mut works = crate::runs::work_room();
     let work: &mut [u8] = &mut works;
     crate::runs::fill(res, RESULT_FILL);
@@ -37,17 +45,18 @@ fn try_sort(tally: Tally, numbers: &[u32], file: &[u8], expected: &[u8], res: &m
         Sorting::Done { rows } => {
             let counted = rows == number_at(numbers, 7);
             let right = both(counted, result_right(numbers, expected, res));
-            crate::tell::outcome(tally, Seen(0, 0), seen, both(right, cleared))
+            crate::tell::outcome(rt, tally, Seen(0, 0), seen, both(right, cleared))
         }
         Sorting::Refused(refusal) => {
             let value = crate::tell::of_sort_refusal(refusal);
             let kept = all_from(res, 0, RESULT_FILL);
-            crate::tell::outcome(tally, value, seen, both(kept, cleared))
+            crate::tell::outcome(rt, tally, value, seen, both(kept, cleared))
         }
     }
 }
 
 pub fn obey(
+    rt: &impl Streams,
     letter: u8,
     numbers: &[u32],
     file: &[u8],
@@ -56,7 +65,7 @@ pub fn obey(
     tally: Tally,
 ) -> Tally {
     match letter {
-        b'O' => try_sort(tally, numbers, file, kept, res),
+        b'O' => try_sort(rt, tally, numbers, file, kept, res),
         _ => tally,
     }
 }

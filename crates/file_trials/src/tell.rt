@@ -3,6 +3,8 @@ use accept::{Acceptance, FileRefusal};
 use run_answers::{RunAnswer, RunRefusal};
 use sort_answers::SortRefusal;
 use text::both;
+use text::out::{print_decimal, write_all};
+use text::streams::Streams;
 
 // A refusal's number and place by the scope paper; 0 and 0 for success.
 #[derive(Clone, Copy)]
@@ -75,19 +77,19 @@ pub fn alike(value: Seen, expected: Seen) -> bool {
 
 // ---- printed lines
 
-pub fn print_number(value: u64) {
-    io::write_all(1, b" ");
-    io::print_decimal(1, value);
+pub fn print_number(rt: &impl Streams, value: u64) {
+    write_all(rt, 1, b" ");
+    print_decimal(rt, 1, value);
 }
 
 // One expectation more; one that is not met says so in its line.
-pub fn judged(tally: Tally, right: bool) -> Tally {
+pub fn judged(rt: &impl Streams, tally: Tally, right: bool) -> Tally {
     let asked = std::num::wrapping_add_u32(tally.asked, 1);
     let met = std::num::wrapping_add_u32(tally.met, scripted_files::bytes::one_if(right));
     if !right {
-        io::write_all(1, b" NOT AS EXPECTED");
+        write_all(rt, 1, b" NOT AS EXPECTED");
     }
-    io::write_all(1, b"\n");
+    write_all(rt, 1, b"\n");
     Tally {
         asked: asked,
         met: met,
@@ -95,28 +97,28 @@ pub fn judged(tally: Tally, right: bool) -> Tally {
 }
 
 // A number that is seen.
-pub fn number(tally: Tally, value: u32, expected: u32) -> Tally {
-    print_number(value as u64);
-    judged(tally, value == expected)
+pub fn number(rt: &impl Streams, tally: Tally, value: u32, expected: u32) -> Tally {
+    print_number(rt, value as u64);
+    judged(rt, tally, value == expected)
 }
 
 // A refusal that is seen, and whether the bytes shown or left are right.
-pub fn outcome(tally: Tally, value: Seen, expected: Seen, right: bool) -> Tally {
-    print_number(value.0 as u64);
-    print_number(value.1 as u64);
+pub fn outcome(rt: &impl Streams, tally: Tally, value: Seen, expected: Seen, right: bool) -> Tally {
+    print_number(rt, value.0 as u64);
+    print_number(rt, value.1 as u64);
     if !right {
-        io::write_all(1, b" and leaves the wrong bytes");
+        write_all(rt, 1, b" and leaves the wrong bytes");
     }
     let same = alike(value, expected);
-    judged(tally, both(same, right))
+    judged(rt, tally, both(same, right))
 }
 
 // How many expectations were met.
-pub fn total(tally: Tally) -> Tally {
-    io::write_all(1, b"met");
-    print_number(tally.met as u64);
-    io::write_all(1, b" of");
-    print_number(tally.asked as u64);
-    io::write_all(1, b"\n");
+pub fn total(rt: &impl Streams, tally: Tally) -> Tally {
+    write_all(rt, 1, b"met");
+    print_number(rt, tally.met as u64);
+    write_all(rt, 1, b" of");
+    print_number(rt, tally.asked as u64);
+    write_all(rt, 1, b"\n");
     no_tally()
 }

@@ -7,6 +7,7 @@ use text::both;
 use text::bytes::{first, least, same};
 use text::numbers::number_at;
 use text::out::tell;
+use text::streams::Streams;
 
 // What result and work hold before.
 pub const FILL: u8 = 170;
@@ -163,18 +164,21 @@ pub fn try_fold(file: &[u8], wish: u32, lent: Lent, tally: &mut [usize]) {
     compare(file, wish, lent, answer, result, list, tally);
 }
 
-pub fn print(counts: [usize; COUNTS]) {
+pub fn print(rt: &impl Streams, counts: [usize; COUNTS]) {
     tell(
+        rt,
         1,
         b"folds done #, refused with 1 #, with 2 #, with 11 #, ",
         [counts[0], counts[1], counts[2], counts[11], 0, 0],
     );
     tell(
+        rt,
         1,
         b"with 14 #, with 15 #, with 16 #\n",
         [counts[14], counts[15], counts[16], 0, 0, 0],
     );
     tell(
+        rt,
         1,
         b"clock entries set #\ndifferences: # in answers, # in results, # in works, # in clock lists\n",
         [
@@ -187,6 +191,7 @@ pub fn print(counts: [usize; COUNTS]) {
         ],
     );
     tell(
+        rt,
         1,
         b"traces with known answers #, right #\n",
         [counts[TRACES], counts[TRACES_RIGHT], 0, 0, 0, 0],

@@ -1,11 +1,13 @@
 // The public Fold tried, and Trace where its answers are known. Result, work and clock list are filled before; the answer and what is left of the three are held against the
 // reference, a folder written separately, and against the fillers.
+#![tactic(auto)]
+
 ghost use Rattle.std.specs.Prelude.{◌≡◌, length};
 
 mod designs;
 mod folds;
+mod known_traces;
 mod listed;
-mod traces;
 
 use folds::try_fold;
 use reference_fold::Lent;
@@ -76,14 +78,14 @@ fn try_traced(design: usize, number: u32, tally: &mut [usize]) {
     let mut room = design_room();
     let file: &mut [u8] = &mut room;
     let size = designs::put_design(file, design);
-    traces::try_traces(first(file, size), number, tally);
+    known_traces::try_traces(first(file, size), number, tally);
 }
 
-fn main() {
+fn main(rt: HostRuntime) {
     let mut counts = [0usize; folds::COUNTS];
     try_designs(&mut counts);
     try_longer(&mut counts);
     try_traced(0, 0, &mut counts);
     try_traced(designs::TRACED, 1, &mut counts);
-    folds::print(counts);
+    folds::print(&rt, counts);
 }

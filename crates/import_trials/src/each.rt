@@ -8,6 +8,7 @@ use scripted_texts::tell::{Seen, Tally};
 use text::bytes::first;
 use text::numbers::number_at;
 use text::out::{Out, one, put_filled, three, two};
+use text::streams::{Nowhere, Streams};
 
 #[derive(Clone, Copy)]
 struct Each {
@@ -79,9 +80,9 @@ fn put_latch(each: Each, text: &mut [u8], out: Out, k: usize) -> Out {
     let own = literal_of(plus(plus(each.inputs, k), 1));
     let next = literal_of(taken_by(each, k));
     match k % 3 {
-        0 => put_filled(text, out, b"# #\n", two(own, next)),
-        1 => put_filled(text, out, b"# # #\n", three(own, next, 1)),
-        _ => put_filled(text, out, b"# # #\n", three(own, next, own)),
+        0 => put_filled(&Nowhere, text, out, b"# #\n", two(own, next)),
+        1 => put_filled(&Nowhere, text, out, b"# # #\n", three(own, next, 1)),
+        _ => put_filled(&Nowhere, text, out, b"# # #\n", three(own, next, own)),
     }
 }
 
@@ -91,7 +92,7 @@ fn put_gate(each: Each, text: &mut [u8], out: Out, k: usize) -> Out {
     let next = node_below(behind, nodes_of(each));
     let other = node_below(k, sources_of(each));
     let numbers = three(literal_of(node), inverse_of(next), literal_of(other));
-    put_filled(text, out, b"# # #\n", numbers)
+    put_filled(&Nowhere, text, out, b"# # #\n", numbers)
 }
 
 // Line number `line` after the header.
@@ -99,12 +100,12 @@ fn put_line(each: Each, text: &mut [u8], out: Out, line: usize) -> Out {
     let sources = minus(sources_of(each), 1);
     let shown = plus(sources, each.outputs);
     if line < each.inputs {
-        put_filled(text, out, b"#\n", one(literal_of(plus(line, 1))))
+        put_filled(&Nowhere, text, out, b"#\n", one(literal_of(plus(line, 1))))
     } else if line < sources {
         put_latch(each, text, out, minus(line, each.inputs))
     } else if line < shown {
         let node = shown_by(each, minus(line, sources));
-        put_filled(text, out, b"#\n", one(inverse_of(node)))
+        put_filled(&Nowhere, text, out, b"#\n", one(inverse_of(node)))
     } else {
         put_gate(each, text, out, minus(line, shown))
     }
@@ -130,7 +131,7 @@ fn put_text(each: Each, text: &mut [u8]) -> usize {
         each.gates,
         0,
     ];
-    let opened = put_filled(text, text::out::to(1), b"aag # # # # #\n", header);
+    let opened = put_filled(&Nowhere, text, text::out::to(1), b"aag # # # # #\n", header);
     let closed = put_lines(each, text, opened);
     closed.waiting
 }
@@ -211,7 +212,14 @@ fn put_expected(each: Each, expected: Seen, lent: Lent, res: &mut [u8]) {
     put_rows(each, expected.2 as usize, res);
 }
 
-pub fn try_each(line: &[u8], text: &mut [u8], numbers: &[u32], lent: Lent, tally: Tally) -> Tally {
+pub fn try_each(
+    rt: &impl Streams,
+    line: &[u8],
+    text: &mut [u8],
+    numbers: &[u32],
+    lent: Lent,
+    tally: Tally,
+) -> Tally {
     let mut room = crate::trying::result_room();
     let result: &mut [u8] = &mut room;
     let each = each_of(numbers);
@@ -223,5 +231,5 @@ pub fn try_each(line: &[u8], text: &mut [u8], numbers: &[u32], lent: Lent, tally
     );
     put_expected(each, expected, lent, result);
     let tried = crate::trying::import_lent(first(text, size), lent, result);
-    scripted_texts::tell::judge(line, b"", tried.seen, expected, tried.left, tally)
+    scripted_texts::tell::judge(rt, line, b"", tried.seen, expected, tried.left, tally)
 }

@@ -1,4 +1,6 @@
 // Import tried on the texts that standard input lists, and on longer ones that it describes: each group is printed with how many agree, and each that does not.
+#![tactic(auto)]
+
 mod each;
 mod many;
 mod trying;
@@ -7,6 +9,8 @@ ghost use Rattle.std.specs.Prelude.{◌≡◌, length};
 
 use scripted_texts::script::Lent;
 use scripted_texts::tell::Tally;
+use std::io::Input;
+use text::streams::Streams;
 
 // Room for the numbers of a line.
 fn numbers_room() -> [u32; 64]
@@ -16,16 +20,24 @@ fn numbers_room() -> [u32; 64]
 }
 
 // `done` ends a group, a title is printed as it stands, and the others are tried.
-fn obey(line: &[u8], letter: u8, text: &mut [u8], lent: Lent, tally: Tally) -> Tally {
+fn obey(
+    rt: &impl Streams,
+    line: &[u8],
+    letter: u8,
+    text: &mut [u8],
+    lent: Lent,
+    tally: Tally,
+) -> Tally {
     let mut room = numbers_room();
     let numbers: &mut [u32] = &mut room;
     match letter {
-        b'#' => scripted_texts::tell::title(line, tally),
-        b'd' => scripted_texts::tell::total(tally),
+        b'#' => scripted_texts::tell::title(rt, line, tally),
+        b'd' => scripted_texts::tell::total(rt, tally),
         b't' => {
             let count = scripted_texts::script::read_expected(line, numbers);
             let size = scripted_texts::script::put_text(line, text);
             trying::try_text(
+                rt,
                 line,
                 text::bytes::first(text, size),
                 numbers,
@@ -36,11 +48,11 @@ fn obey(line: &[u8], letter: u8, text: &mut [u8], lent: Lent, tally: Tally) -> T
         }
         b'm' => {
             scripted_texts::script::read_numbers(line, 0, line.len(), numbers);
-            many::try_many(line, text, numbers, lent, tally)
+            many::try_many(rt, line, text, numbers, lent, tally)
         }
         b'e' => {
             scripted_texts::script::read_numbers(line, 0, line.len(), numbers);
-            each::try_each(line, text, numbers, lent, tally)
+            each::try_each(rt, line, text, numbers, lent, tally)
         }
         _ => tally,
     }
@@ -60,7 +72,7 @@ fn lent_after(line: &[u8], letter: u8, lent: Lent) -> Lent {
 }
 
 // No script has more lines than turns.
-fn obey_script(input: &[u8], text: &mut [u8]) {
+fn obey_script(rt: &impl Streams, input: &[u8], text: &mut [u8]) {
     let mut tally = scripted_texts::tell::no_tally();
     let mut lent = scripted_texts::script::enough();
     let mut start = 0;
@@ -72,16 +84,16 @@ fn obey_script(input: &[u8], text: &mut [u8]) {
         let line = scripted_texts::script::line_at(input, start);
         let letter = text::bytes::get(line, 0);
         lent = lent_after(line, letter, lent);
-        tally = obey(line, letter, text, lent, tally);
+        tally = obey(rt, line, letter, text, lent, tally);
         let size = std::num::wrapping_add_usize(line.len(), 1);
         start = std::num::wrapping_add_usize(start, size);
     }
 }
 
-fn main() {
-    let mut room = io::large_buffer();
-    let size = io::read_full(0, &mut room);
+fn main(rt: HostRuntime) {
+    let mut room = text::rooms::large_buffer();
+    let size = text::files::read_full(&mut rt.reader(), &mut room);
     let input = &room[..size];
     let mut texts = text::files::long_room();
-    obey_script(input, &mut texts);
+    obey_script(&rt, input, &mut texts);
 }

@@ -6,6 +6,7 @@ use scripted_texts::tell::{Seen, Tally};
 use text::bytes::first;
 use text::numbers::number_at;
 use text::out::{Out, one, put_filled, three};
+use text::streams::{Nowhere, Streams};
 
 #[derive(Clone, Copy)]
 struct Many {
@@ -51,7 +52,7 @@ fn put_inputs(many: Many, text: &mut [u8], out: Out) -> Out {
     let mut now = out;
     let end = many.inputs;
     'inputs: for at in 0..end {
-        now = put_filled(text, now, b"#\n", one(literal_of(many, at)));
+        now = put_filled(&Nowhere, text, now, b"#\n", one(literal_of(many, at)));
     }
     now
 }
@@ -62,16 +63,22 @@ fn put_gate(many: Many, text: &mut [u8], out: Out) -> Out {
     if many.gates == 0 {
         return out;
     }
-    put_filled(text, out, b"# # #\n", three(literal, literal, many.step))
+    put_filled(
+        &Nowhere,
+        text,
+        out,
+        b"# # #\n",
+        three(literal, literal, many.step),
+    )
 }
 
 // The answer is its length.
 fn put_text(many: Many, text: &mut [u8]) -> usize {
     let maximum = literal_of(many, many.inputs);
     let header = [maximum, many.inputs, 0, 1, many.gates, 0];
-    let opened = put_filled(text, text::out::to(1), b"aag # # # # #\n", header);
+    let opened = put_filled(&Nowhere, text, text::out::to(1), b"aag # # # # #\n", header);
     let named = put_inputs(many, text, opened);
-    let shown = put_filled(text, named, b"#\n", one(many.output));
+    let shown = put_filled(&Nowhere, text, named, b"#\n", one(many.output));
     let closed = put_gate(many, text, shown);
     std::num::wrapping_sub_usize(closed.waiting, many.cut)
 }
@@ -117,7 +124,14 @@ fn put_expected(many: Many, expected: Seen, lent: Lent, res: &mut [u8]) {
     put_file(many, expected.2 as usize, res);
 }
 
-pub fn try_many(line: &[u8], text: &mut [u8], numbers: &[u32], lent: Lent, tally: Tally) -> Tally {
+pub fn try_many(
+    rt: &impl Streams,
+    line: &[u8],
+    text: &mut [u8],
+    numbers: &[u32],
+    lent: Lent,
+    tally: Tally,
+) -> Tally {
     let mut room = crate::trying::result_room();
     let result: &mut [u8] = &mut room;
     let many = many_of(numbers);
@@ -129,5 +143,5 @@ pub fn try_many(line: &[u8], text: &mut [u8], numbers: &[u32], lent: Lent, tally
     );
     put_expected(many, expected, lent, result);
     let tried = crate::trying::import_lent(first(text, size), lent, result);
-    scripted_texts::tell::judge(line, b"", tried.seen, expected, tried.left, tally)
+    scripted_texts::tell::judge(rt, line, b"", tried.seen, expected, tried.left, tally)
 }

@@ -7,6 +7,7 @@ use scripted_texts::script::Lent;
 use scripted_texts::tell::{Seen, Tally};
 use text::bytes::{least, put, same};
 use text::numbers::number_at;
+use text::streams::Streams;
 
 // What result and work hold before.
 const RESULT_FILL: u8 = 170;
@@ -162,6 +163,7 @@ fn import_again(text: &[u8], lent: Lent, expected: &[u8]) -> Tried {
 
 // text TEXT => ROWS, or NUMBER PLACE
 pub fn try_text(
+    rt: &impl Streams,
     line: &[u8],
     text: &[u8],
     numbers: &[u32],
@@ -176,6 +178,7 @@ pub fn try_text(
     let one = import_lent(text, lent, result);
     let two = import_again(text, lent, result);
     let after = scripted_texts::tell::judge(
+        rt,
         line,
         b" by the product",
         one.seen,
@@ -184,6 +187,7 @@ pub fn try_text(
         tally,
     );
     scripted_texts::tell::judge(
+        rt,
         line,
         b" by the reference",
         two.seen,

@@ -1,2 +1,0 @@
--- Steps of the walk by hand.
-pub mod ArraySteps
