@@ -1,11 +1,14 @@
 // Random netlists and damaged files folded and sorted, and random AIGER texts imported, by the product and by the reference, a
 // folder, a sorter and an importer written separately from the paper's text; files and what is made of them run side by side; values of folds traced back; files at the limits of a file; and the entries of the trainer's table that have no star.
+#![tactic(auto)]
 
 mod imports;
 mod limits;
 
 use reference_fold::Folded;
 use text::bytes::first;
+use text::out::write_all;
+use text::streams::Streams;
 use trial_netlists::netlists::Size;
 use trial_pieces::dice::chance;
 
@@ -92,29 +95,29 @@ fn try_rounds(tally: &mut [u64]) {
 
 // ---- the table
 
-fn print_lasso(answer: Folded) {
-    trial_tally::tally::print(b"stem ", answer.stem as u64);
-    trial_tally::tally::print(b" cycle ", answer.cycle as u64);
-    trial_tally::tally::print(b" phases ", answer.phases as u64);
+fn print_lasso(rt: &impl Streams, answer: Folded) {
+    trial_tally::tally::print(rt, b"stem ", answer.stem as u64);
+    trial_tally::tally::print(rt, b" cycle ", answer.cycle as u64);
+    trial_tally::tally::print(rt, b" phases ", answer.phases as u64);
 }
 
-fn print_rest(answer: Folded) {
-    trial_tally::tally::print(b" used ", answer.used as u64);
-    trial_tally::tally::print(b" rows ", answer.before as u64);
-    trial_tally::tally::print(b" to ", answer.after as u64);
+fn print_rest(rt: &impl Streams, answer: Folded) {
+    trial_tally::tally::print(rt, b" used ", answer.used as u64);
+    trial_tally::tally::print(rt, b" rows ", answer.before as u64);
+    trial_tally::tally::print(rt, b" to ", answer.after as u64);
 }
 
-fn print_refusal(answer: Folded) {
-    trial_tally::tally::print(b"refused ", answer.number as u64);
-    trial_tally::tally::print(b" ", answer.place as u64);
+fn print_refusal(rt: &impl Streams, answer: Folded) {
+    trial_tally::tally::print(rt, b"refused ", answer.number as u64);
+    trial_tally::tally::print(rt, b" ", answer.place as u64);
 }
 
-fn print_answer(answer: Folded) {
+fn print_answer(rt: &impl Streams, answer: Folded) {
     if answer.number == 0 {
-        print_lasso(answer);
-        print_rest(answer);
+        print_lasso(rt, answer);
+        print_rest(rt, answer);
     } else {
-        print_refusal(answer);
+        print_refusal(rt, answer);
     }
 }
 
@@ -126,21 +129,21 @@ fn fold_counter(bits: usize, tally: &mut [u64]) -> Folded {
     trial_operations::folds::try_alone(first(file, size), 0, 256, tally)
 }
 
-fn try_counter(bits: usize, tally: &mut [u64]) {
+fn try_counter(rt: &impl Streams, bits: usize, tally: &mut [u64]) {
     let answer = fold_counter(bits, tally);
-    trial_tally::tally::print(b"counter of ", bits as u64);
-    io::write_all(1, b" bits: ");
-    print_answer(answer);
-    io::write_all(1, b"\n");
+    trial_tally::tally::print(rt, b"counter of ", bits as u64);
+    write_all(rt, 1, b" bits: ");
+    print_answer(rt, answer);
+    write_all(rt, 1, b"\n");
 }
 
-fn main() {
+fn main(rt: HostRuntime) {
     let mut counts = trial_tally::tally::fresh();
     let tally: &mut [u64] = &mut counts;
-    try_counter(8, tally);
-    try_counter(9, tally);
+    try_counter(&rt, 8, tally);
+    try_counter(&rt, 9, tally);
     try_rounds(tally);
     imports::try_all(tally);
     limits::try_all(tally);
-    trial_tally::tally::print_all(tally);
+    trial_tally::tally::print_all(&rt, tally);
 }

@@ -1,6 +1,6 @@
 -- `same_entries` is safe and ends. The loop keeps the lengths of what it writes; the measure is what is left of the range.
 -- Assumes nothing.
-use Prim.Native.Nat.{◌-◌, ◌≤◌}
+use Rattle.std.proofs.Common.{◌-◌, ◌≤◌}
 use Rattle.trial_operations.proofs.folds.same_entries.Given as goal
 
 abbrev pub invariant-entries : goal.invariant-entries

@@ -1,0 +1,10 @@
+-- `try_long` is safe and ends. The loop keeps the lengths of what it writes; the measure is what is left of the range.
+-- Assumes nothing.
+use Rattle.std.proofs.Common.{◌≡◌, ◌-◌, length}
+use Rattle.trials.proofs.imports.try_long.Given as goal
+
+abbrev pub invariant-texts : goal.invariant-texts
+invariant-texts l = (length l.tally ≡ length l.initial.tally)
+
+abbrev pub decreases-texts : goal.decreases-texts
+decreases-texts l = l.end - l.i
