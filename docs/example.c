@@ -1,6 +1,6 @@
 /* example FILE RESULT: folds a netlist file into as many phases as fit best, and writes the folded file.
  *
- *     rt staticlib phasefold
+ *     tools/staticlib
  *     cc -Wall -Wextra -Werror -I include -o example docs/example.c target/staticlib/libphasefold.a
  *
  * Exit status: 0 done; 1 refused; 2 a wrong call, or a file that cannot be read or written.

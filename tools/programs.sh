@@ -2,8 +2,9 @@
 # that needs the program and no file, and `program`, the program that it runs.
 # make_current sees to it that the program is there, made from the sources that are there.
 #
-# A build makes one program, and proves only what that stands on. Once all of it is proved and the program has written
-# what it should, its mark is written: a checksum of the sources and the program, the toolchain's version, and a
+# A build makes one program, and proves only what that stands on. rt leaves it in its crate's folder out/, which other calls
+# of rt empty and fill; what runs is a copy, target/bin/NAME. Once all of it is proved and the program has written what its
+# crate says that it should, its mark is written: a checksum of the sources and the program, the toolchain's version, and a
 # checksum of the sources. A program is run only if its mark is right; so never one whose check failed, nor one of other
 # sources, whatever the times of the files say.
 mark=$top/target/built.$program
@@ -19,10 +20,11 @@ fail() {
     exit 2
 }
 
-# checksum PATH...: of all files there, their names and their bytes. Names as editors give them to files of their own, .x and x~,
-# are left out where rt reads none such: everywhere but in a crate's data.
+# checksum PATH...: of all files there, their names and their bytes. What rt makes, in the folder out/ of each crate, is no source.
+# Names as editors give them to files of their own, .x and x~, are left out where rt reads none such: everywhere but in a crate's data.
 checksum() {
-    (cd -- "$top/" && find "$@" \( -name '.*' -o -name '*~' \) ! -path '*/data/*' -prune -o -type f -exec sha256sum {} + |
+    (cd -- "$top/" && find "$@" -path 'crates/*/out' ! -path 'crates/*/*/out' -prune -o \
+        \( -name '.*' -o -name '*~' \) ! -path '*/data/*' -prune -o -type f -exec sha256sum {} + |
         LC_ALL=C sort | sha256sum) 2>/dev/null
 }
 
@@ -85,22 +87,26 @@ wait_for_builder() {
 
 # ---- the build
 
-# Runs rt in a process group of its own (by setsid; without that command only rt itself would be ended), and passes on what it says of crates.
+# Runs rt in a process group of its own (by setsid; without that command only rt itself would be ended), and says of each crate
+# that it is proved, and whom rt waits for. rt builds the program and then runs it, here with no words and no input, for which
+# none does anything; so its status is no verdict.
 run_rt() {
     own_group=$(command -v setsid)
     $own_group sh -c '
-        cd -- "$1/" || exit 2
-        { rt check "$3" 2>&1; echo "ended $?"; } | {
+        cd -- "$1/crates/$3/" || exit
+        rt run 2>&1 >/dev/null </dev/null | {
             trap "" PIPE
             while IFS= read -r line; do
-                last=$line
                 printf "%s\n" "$line"
                 case $line in
-                *"(unchanged since it was last proved)") ;;
-                "rt: "*) printf "%s\n" "$line" >&2 ;;
+                "crate "*": modules "*)
+                    crate=${line#crate }
+                    crate=${crate%%:*}
+                    ;;
+                "logic=proved "*) printf "rt: %s proved\n" "$crate" >&2 ;;
+                "rt: "*"waiting for "*) printf "%s\n" "$line" >&2 ;;
                 esac
             done
-            exit "${last#ended }"
         } >"$2"' sh "$top" "$log" "$program" >/dev/null &
     mkdir "$lock/$!"
     wait "$!"
@@ -118,29 +124,52 @@ stop() {
     kill -s "$1" $$
 }
 
-has_program() {
-    [ -x "$top/target/bin/$program" ]
+# What rt has said that is no more than its way.
+tell_why() {
+    grep -v -e ': proved$' -e '^rt: .*: begins with what ' -e '^rt: chose ' -e '^checked ' -e '^statements ' -e '^library ' -e '^logic ' \
+        -e '^crate .*: modules ' -e '^axioms ' -e '^logic=proved ' -e '^linked ' -e '^note: finished ' -e 'made no use of' \
+        -e '^rt: rt check --fix-imports ' "$log" >&2
 }
 
-# rt leaves a program that it has proved as it is. If that is gone, or another although the sources are the same, it
-# has to be made anew: for that rt's own mark of the program goes.
-forget_program() {
-    has_program && [ "$(sed -n 3p "$mark" 2>/dev/null)" != "$before" ] ||
-        rm -f "$top/target/stamp/$program"
-}
+# Whether the program, which is to be $made, writes what its crate says that it has to, for the input, the words, the data and the status that stand there.
+writes_right() (
+    crate=$top/crates/$program
+    wrote=$top/target/wrote.$program
+    set --
+    if [ -f "$crate/args" ]; then
+        while IFS= read -r word || [ -n "$word" ]; do set -- "$@" "$word"; done <"$crate/args"
+    fi
+    input=/dev/null wanted=/dev/null status=0
+    [ ! -f "$crate/stdin" ] || input=$crate/stdin
+    [ ! -f "$crate/stdout" ] || wanted=$crate/stdout
+    [ ! -f "$crate/status" ] || status=$(cat "$crate/status")
+    [ ! -d "$crate/data" ] || cd -- "$crate/data/" || return
+    "$made" "$@" <"$input" >"$wrote" 2>/dev/null
+    [ $? -eq "$status" ] && cmp -s "$wrote" "$wanted"
+    right=$?
+    rm -f "$wrote"
+    return $right
+)
 
 build() {
     command -v rt >/dev/null || fail "the Rattle toolchain is needed to build it: no command rt"
-    . "$top/tools/jobs.sh"
     before=$(sources)
-    forget_program
-    rm -f "$mark"
+    left=$top/crates/$program/out/$program
+    made=$top/target/bin/$program.new
+    rm -f "$mark" "$left"
     say "building the program, which takes some minutes; each crate is named once it is proved"
-    run_rt || {
-        grep -v -e ': proved$' -e '^rt: .* proved (.*)$' -e '^ended ' "$log" >&2
+    run_rt
+    # It was not there before: so it is what rt has proved and built now.
+    [ -x "$left" ] || {
+        tell_why
         fail "the program could not be built"
     }
-    has_program || fail "rt has made no program"
+    mkdir -p "$top/target/bin" && cp "$left" "$made" || fail "cannot write $made"
+    writes_right || {
+        rm -f "$made"
+        fail "the program was built, but does not write what crates/$program says that it has to"
+    }
+    mv -f "$made" "$top/target/bin/$program" || fail "cannot write $top/target/bin/$program"
     after=$(sources_and_program)
     [ "$(sources)" = "$before" ] || fail "the sources were changed while it was built: call again"
     { echo "$after" && rt version && echo "$before"; } >"$mark.new" && mv "$mark.new" "$mark" || fail "cannot write $mark"
