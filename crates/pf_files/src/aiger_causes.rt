@@ -10,29 +10,39 @@ use text::both;
 use text::bytes::{find, first, rest};
 use text::numbers::LARGEST;
 use text::out::{one, two};
+use text::streams::Streams;
 
 // A word of the text, and what is wrong with it.
-fn say_wrong_word(word: &[u8], wrong: &[u8]) {
-    say_word(word);
-    say_text(wrong);
+fn say_wrong_word(rt: &impl Streams, word: &[u8], wrong: &[u8]) {
+    say_word(rt, word);
+    say_text(rt, wrong);
 }
 
 // What stands where a number should.
-fn say_no_number(word: Word, bytes: &[u8]) {
+fn say_no_number(rt: &impl Streams, word: Word, bytes: &[u8]) {
     match word {
-        Word::End => say_text(b"the text ends in this line, without a line feed"),
-        Word::LineFeed => say_text(b"the line ends where a number should stand"),
+        Word::End => say_text(rt, b"the text ends in this line, without a line feed"),
+        Word::LineFeed => say_text(rt, b"the line ends where a number should stand"),
         Word::LastSpace => {
-            say_text(b"a space stands at the line's end: sed 's/ *$//' drops it");
+            say_text(
+                rt,
+                b"a space stands at the line's end: sed 's/ *$//' drops it",
+            );
         }
-        Word::Space => say_text(b"a space stands where a number should"),
-        Word::Tab => say_text(b"there is a tab, and numbers are parted by single spaces"),
+        Word::Space => say_text(rt, b"a space stands where a number should"),
+        Word::Tab => say_text(
+            rt,
+            b"there is a tab, and numbers are parted by single spaces",
+        ),
         Word::Return => {
-            say_text(b"there is a carriage return, and a line ends with a line feed alone");
+            say_text(
+                rt,
+                b"there is a carriage return, and a line ends with a line feed alone",
+            );
         }
-        Word::Zero => say_wrong_word(bytes, b" is no number: it has a leading zero"),
-        Word::Large => say_wrong_word(bytes, b" is above 4294967295, the largest number"),
-        _ => say_wrong_word(bytes, b" is no number"),
+        Word::Zero => say_wrong_word(rt, bytes, b" is no number: it has a leading zero"),
+        Word::Large => say_wrong_word(rt, bytes, b" is above 4294967295, the largest number"),
+        _ => say_wrong_word(rt, bytes, b" is no number"),
     }
 }
 
@@ -52,16 +62,19 @@ fn begins_with_row(text: &[u8]) -> bool {
 }
 
 // A text that does not open as it should.
-fn say_opening(text: &[u8]) {
+fn say_opening(rt: &impl Streams, text: &[u8]) {
     if begins_with_row(text) {
-        say_text(b"this is a text of rows, of which pf make makes a netlist file");
+        say_text(
+            rt,
+            b"this is a text of rows, of which pf make makes a netlist file",
+        );
     } else {
-        say_text(b"the text does not open with \"aag \"");
+        say_text(rt, b"the text does not open with \"aag \"");
     }
 }
 
 // What to write for a header of AIGER 1.9, with B, C, J and F after the five numbers. B and C count lines that follow those of the outputs.
-fn say_longer_header(line: &[u8]) {
+fn say_longer_header(rt: &impl Streams, line: &[u8]) {
     let bad = header_number(line, 5);
     let more = std::num::wrapping_add_usize(bad, header_number(line, 6));
     let outputs = std::num::wrapping_add_usize(header_number(line, 3), more);
@@ -76,14 +89,16 @@ fn say_longer_header(line: &[u8]) {
         0,
     ];
     if 0 < std::num::wrapping_add_usize(justice, fairness) {
-        say_text(b"; justice and fairness (J, F) are not read");
+        say_text(rt, b"; justice and fairness (J, F) are not read");
     } else if more == 0 {
         say(
+            rt,
             b"; the others are 0, so \"aag # # # # #\" says the same",
             plain,
         );
     } else if outputs <= LARGEST as usize {
         say(
+            rt,
             b"; bad states and constraints follow the outputs, so \"aag # # # # #\" reads them as outputs",
             plain,
         );
@@ -91,129 +106,137 @@ fn say_longer_header(line: &[u8]) {
 }
 
 // A header of another count of numbers.
-fn say_header(text: &[u8], count: usize) {
+fn say_header(rt: &impl Streams, text: &[u8], count: usize) {
     say(
+        rt,
         b"the header has # numbers, and 5 are read: M I L O A",
         one(count),
     );
     if both(5 < count, count <= 9) {
-        say_longer_header(first(text, find(text, 0, b'\n')));
+        say_longer_header(rt, first(text, find(text, 0, b'\n')));
     }
 }
 
 // A line of another count of numbers than its section wants.
-fn say_count(section: Section, count: usize) {
-    say(b"numbers: #, and ", one(count));
+fn say_count(rt: &impl Streams, section: Section, count: usize) {
+    say(rt, b"numbers: #, and ", one(count));
     match section {
-        Section::Input => say_text(b"an input line has 1: its literal"),
+        Section::Input => say_text(rt, b"an input line has 1: its literal"),
         Section::Latch => {
-            say_text(b"a latch line has 2 or 3: its literal, its next value, its reset");
+            say_text(
+                rt,
+                b"a latch line has 2 or 3: its literal, its next value, its reset",
+            );
         }
-        Section::Output => say_text(b"an output line has 1: the literal that it shows"),
-        Section::Gate => say_text(b"a gate line has 3: its literal and its two operands"),
+        Section::Output => say_text(rt, b"an output line has 1: the literal that it shows"),
+        Section::Gate => say_text(rt, b"a gate line has 3: its literal and its two operands"),
     }
 }
 
 // What a line of the section defines.
-fn say_section(section: Section) {
+fn say_section(rt: &impl Streams, section: Section) {
     match section {
-        Section::Input => say_text(b"input"),
-        Section::Latch => say_text(b"latch"),
-        Section::Output => say_text(b"output"),
-        Section::Gate => say_text(b"gate"),
+        Section::Input => say_text(rt, b"input"),
+        Section::Latch => say_text(rt, b"latch"),
+        Section::Output => say_text(rt, b"output"),
+        Section::Gate => say_text(rt, b"gate"),
     }
 }
 
 // A definition that is none.
-fn say_definition(section: Section, literal: u32, largest: usize) {
-    say_section(section);
+fn say_definition(rt: &impl Streams, section: Section, literal: u32, largest: usize) {
+    say_section(rt, section);
     say(
+        rt,
         b" # is no even literal from 2 to 2M, #",
         two(literal as usize, largest),
     );
 }
 
 // A literal that no line defines.
-fn say_undefined(literal: u32) {
+fn say_undefined(rt: &impl Streams, literal: u32) {
     let used = literal as usize;
     if used % 2 == 0 {
-        say(b"# is used, and no line defines it", one(used));
+        say(rt, b"# is used, and no line defines it", one(used));
     } else {
-        say(b"# is used, and no line defines #", two(used, used - 1));
+        say(rt, b"# is used, and no line defines #", two(used, used - 1));
     }
 }
 
 // What is wrong with a line by itself.
-fn say_line_cause(text: &[u8], cause: Cause) {
+fn say_line_cause(rt: &impl Streams, text: &[u8], cause: Cause) {
     match cause {
         Cause::NoNumber { word, from, end } => {
             let size = std::num::wrapping_sub_usize(end, from);
-            say_no_number(word, first(rest(text, from), size));
+            say_no_number(rt, word, first(rest(text, from), size));
         }
         Cause::Missing { last } => say(
+            rt,
             b"the text ends before this line, and the last line that the header counts is #",
             one(last),
         ),
-        Cause::Line { section, count } => say_count(section, count),
+        Cause::Line { section, count } => say_count(rt, section, count),
         Cause::Definition {
             section,
             literal,
             largest,
-        } => say_definition(section, literal, largest),
+        } => say_definition(rt, section, literal, largest),
         Cause::Reset { reset, latch } => say(
+            rt,
             b"reset # is not 0, 1 or the latch itself, #",
             two(reset as usize, latch as usize),
         ),
-        _ => say_text(b"this is not read as an AIGER text"),
+        _ => say_text(rt, b"this is not read as an AIGER text"),
     }
 }
 
 // 24
-fn say_fault(text: &[u8], cause: Cause) {
+fn say_fault(rt: &impl Streams, text: &[u8], cause: Cause) {
     match cause {
-        Cause::Opening => say_opening(text),
-        Cause::Binary => say_text(b"this is binary AIGER, of which aigtoaig makes a text"),
-        Cause::Header { count } => say_header(text, count),
-        Cause::NoOutput => say_text(b"O is 0, and at least one output is needed"),
-        Cause::Twice { literal } => say(b"# is defined a second time", one(literal as usize)),
-        Cause::Undefined { literal } => say_undefined(literal),
-        _ => say_line_cause(text, cause),
+        Cause::Opening => say_opening(rt, text),
+        Cause::Binary => say_text(rt, b"this is binary AIGER, of which aigtoaig makes a text"),
+        Cause::Header { count } => say_header(rt, text, count),
+        Cause::NoOutput => say_text(rt, b"O is 0, and at least one output is needed"),
+        Cause::Twice { literal } => say(rt, b"# is defined a second time", one(literal as usize)),
+        Cause::Undefined { literal } => say_undefined(rt, literal),
+        _ => say_line_cause(rt, text, cause),
     }
 }
 
 // 24, with its line.
-fn say_other_text(source: &[u8], text: &[u8]) {
+fn say_other_text(rt: &impl Streams, source: &[u8], text: &[u8]) {
     let mut work = work_room();
     let fault = aiger_faults::find_fault(text, &mut work);
     let cause = fault.cause;
-    say_where(source, fault.line);
-    if !say_text_cause(text) {
-        say_fault(text, cause);
+    say_where(rt, source, fault.line);
+    if !say_text_cause(rt, text) {
+        say_fault(rt, text, cause);
     }
 }
 
 // 22
-fn say_waiting_gate(source: &[u8], text: &[u8], row: usize) {
+fn say_waiting_gate(rt: &impl Streams, source: &[u8], text: &[u8], row: usize) {
     let gate = aiger_faults::find_gate(text, row);
-    say_where(source, gate.line);
-    say_text_loop(text, gate.literal as usize, row);
+    say_where(rt, source, gate.line);
+    say_text_loop(rt, text, gate.literal as usize, row);
 }
 
 // 25
-fn say_many_rows(source: &[u8], text: &[u8]) {
-    say_where(source, 1);
+fn say_many_rows(rt: &impl Streams, source: &[u8], text: &[u8]) {
+    say_where(rt, source, 1);
     say(
+        rt,
         b"the header counts # rows with the constant, and a file has at most 32256",
         one(aiger_faults::count_rows(text)),
     );
 }
 
 // The sentence of a refusal of this number.
-pub fn say_aiger_cause(source: &[u8], text: &[u8], number: u32, place: usize) {
+pub fn say_aiger_cause(rt: &impl Streams, source: &[u8], text: &[u8], number: u32, place: usize) {
     match number {
-        22 => say_waiting_gate(source, text, place),
-        24 => say_other_text(source, text),
-        _ => say_many_rows(source, text),
+        22 => say_waiting_gate(rt, source, text, place),
+        24 => say_other_text(rt, source, text),
+        _ => say_many_rows(rt, source, text),
     }
-    say_text(b"\n");
+    say_text(rt, b"\n");
 }

@@ -5,41 +5,43 @@ use pf_causes::{count_refusal, refuse, unordered_refusal};
 use pf_words::outcome::{OUTPUT, Outcome, done_with, fail_word, finish};
 use text::numbers::Number;
 use text::out::{none, put_byte, put_hex, to};
+use text::streams::Streams;
 
 // ---- Check
 
 // Whether the file is accepted.
-pub fn check(path: &[u8], file: &[u8]) -> Outcome {
+pub fn check(rt: &impl Streams, path: &[u8], file: &[u8]) -> Outcome {
     let refusal = phasefold::c_check::pf_check(file);
     if refusal.number == 0 {
-        done_with(b"accepted\n", none())
+        done_with(rt, b"accepted\n", none())
     } else {
-        refuse(path, 0, file, refusal, b"")
+        refuse(rt, path, 0, file, refusal, b"")
     }
 }
 
 // ---- Count
 
 // The lines of all counts.
-fn tell_counts(counts: PfCounts) -> Outcome {
+fn tell_counts(rt: &impl Streams, counts: PfCounts) -> Outcome {
     let nodes = counts.nodes as usize;
     let inputs = counts.inputs as usize;
     let registers = counts.registers as usize;
     let unknown = counts.unknown as usize;
     let outputs = counts.outputs as usize;
     done_with(
+        rt,
         b"nodes #\ninputs #\nregisters #\nX registers #\noutputs #\n",
         [nodes, inputs, registers, unknown, outputs, 0],
     )
 }
 
 // How many rows of each sort the file has.
-pub fn count(path: &[u8], file: &[u8]) -> Outcome {
+pub fn count(rt: &impl Streams, path: &[u8], file: &[u8]) -> Outcome {
     let counts = phasefold::c_count::pf_count(file);
     if counts.number == 0 {
-        tell_counts(counts)
+        tell_counts(rt, counts)
     } else {
-        refuse(path, 0, file, count_refusal(counts), b"")
+        refuse(rt, path, 0, file, count_refusal(counts), b"")
     }
 }
 
@@ -51,62 +53,62 @@ fn separator(i: usize) -> u8 {
 }
 
 // The bytes of a part, in hexadecimal digits.
-fn put_part(buffer: &mut [u8], part: &[u8]) -> Outcome {
+fn put_part(rt: &impl Streams, buffer: &mut [u8], part: &[u8]) -> Outcome {
     let mut out = to(OUTPUT);
     let mut i = 0;
     'bytes: while i < part.len() {
-        out = put_hex(buffer, out, part[i]);
-        out = put_byte(buffer, out, separator(i));
+        out = put_hex(rt, buffer, out, part[i]);
+        out = put_byte(rt, buffer, out, separator(i));
         i += 1;
     }
-    finish(buffer, out, Outcome::Done)
+    finish(rt, buffer, out, Outcome::Done)
 }
 
 // The part's lines.
-fn tell_part(part: &[u8]) -> Outcome {
-    let mut room = io::buffer();
-    put_part(&mut room, part)
+fn tell_part(rt: &impl Streams, part: &[u8]) -> Outcome {
+    let mut room = text::rooms::buffer();
+    put_part(rt, &mut room, part)
 }
 
 // The row part of a block, or the refusal.
-fn show_block(path: &[u8], file: &[u8], block: u32, word: &[u8]) -> Outcome {
+fn show_block(rt: &impl Streams, path: &[u8], file: &[u8], block: u32, word: &[u8]) -> Outcome {
     let mut number: u32 = 0;
     let mut place: u32 = 0;
     let part = phasefold::show(file, block, &mut number, &mut place);
     if number == 0 {
-        tell_part(part)
+        tell_part(rt, part)
     } else {
         let refusal = PfRefusal {
             number: number,
             place: place,
         };
-        refuse(path, 0, file, refusal, word)
+        refuse(rt, path, 0, file, refusal, word)
     }
 }
 
 // The block is the number that the word has.
-pub fn show(path: &[u8], file: &[u8], word: &[u8]) -> Outcome {
+pub fn show(rt: &impl Streams, path: &[u8], file: &[u8], word: &[u8]) -> Outcome {
     match text::numbers::read(word) {
-        Number::Is(block) => show_block(path, file, block, word),
-        Number::Not => fail_word(b"the block ", word, b" is not a number\n"),
+        Number::Is(block) => show_block(rt, path, file, block, word),
+        Number::Not => fail_word(rt, b"the block ", word, b" is not a number\n"),
     }
 }
 
 // ---- rows as text
 
 // The lines of all rows.
-fn tell_rows(file: &[u8]) -> Outcome {
-    let mut room = io::large_buffer();
-    let out = put_rows(&mut room, to(OUTPUT), file, row_count(file));
-    finish(&room, out, Outcome::Done)
+fn tell_rows(rt: &impl Streams, file: &[u8]) -> Outcome {
+    let mut room = text::rooms::large_buffer();
+    let out = put_rows(rt, &mut room, to(OUTPUT), file, row_count(file));
+    finish(rt, &room, out, Outcome::Done)
 }
 
 // All rows of an accepted file, whose gates may stand in any order.
-pub fn rows(path: &[u8], file: &[u8]) -> Outcome {
+pub fn rows(rt: &impl Streams, path: &[u8], file: &[u8]) -> Outcome {
     let refusal = unordered_refusal(file);
     if refusal.number == 0 {
-        tell_rows(file)
+        tell_rows(rt, file)
     } else {
-        refuse(path, 0, file, refusal, b"")
+        refuse(rt, path, 0, file, refusal, b"")
     }
 }

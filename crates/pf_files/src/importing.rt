@@ -4,6 +4,7 @@ ghost use Rattle.std.specs.Prelude.{◌≡◌, length};
 use crate::aiger_causes::say_aiger_cause;
 use c_answers::{PfRefusal, PfWritten};
 use listing::rows::{MOST_ROWS, file_bytes};
+use pf_words::calls::Call;
 use pf_words::outcome::{Outcome, done_with, fail_by_cause, say, say_where, tell_refusal};
 use pf_words::rooms::result_room;
 use pf_words::saving::save;
@@ -11,6 +12,7 @@ use text::both;
 use text::bytes::first;
 use text::files::Loaded;
 use text::out::one;
+use text::streams::Streams;
 
 // Room for each text whose rows fit a file: its header has at most 59 bytes, and each of 32,255 lines at most 33.
 fn text_room() -> [u8; 1114112]
@@ -27,28 +29,29 @@ fn work_room() -> [u8; 196608]
 }
 
 // The file that stands in `result` is kept.
-fn keep_imported(written: PfWritten, res: &[u8], kept: &[u8]) -> Outcome {
-    match save(kept, first(res, file_bytes(written.rows))) {
-        Outcome::Done => done_with(b"imported # rows\n", one(written.rows as usize)),
+fn keep_imported(rt: &Call, written: PfWritten, res: &[u8], kept: &[u8]) -> Outcome {
+    match save(rt, kept, first(res, file_bytes(written.rows))) {
+        Outcome::Done => done_with(rt, b"imported # rows\n", one(written.rows as usize)),
         _ => Outcome::Failed,
     }
 }
 
 // The refusal is told.
-fn refuse_import(source: &[u8], text: &[u8], written: PfWritten) -> Outcome {
+fn refuse_import(rt: &impl Streams, source: &[u8], text: &[u8], written: PfWritten) -> Outcome {
     let refusal = PfRefusal {
         number: written.number,
         place: written.place,
     };
-    let outcome = tell_refusal(refusal);
-    say_aiger_cause(source, text, refusal.number, refusal.place as usize);
+    let outcome = tell_refusal(rt, refusal);
+    say_aiger_cause(rt, source, text, refusal.number, refusal.place as usize);
     outcome
 }
 
 // A longer text whose header counts more rows than a file has: whether its lines are right is not known.
-fn fail_longer(source: &[u8], rows: usize) -> Outcome {
-    say_where(source, 0);
+fn fail_longer(rt: &impl Streams, source: &[u8], rows: usize) -> Outcome {
+    say_where(rt, source, 0);
     say(
+        rt,
         b"longer than 1114112 bytes, and its header counts # rows, a file has at most 32256\n",
         one(rows),
     );
@@ -57,6 +60,7 @@ fn fail_longer(source: &[u8], rows: usize) -> Outcome {
 
 // What came of the import of a text, or of the first bytes of a longer one. Then all answers hold for the whole of it, 24 if its rows fit a file: the lines of such a text are among these bytes.
 fn tell_import(
+    rt: &Call,
     source: &[u8],
     text: &[u8],
     longer: bool,
@@ -65,34 +69,34 @@ fn tell_import(
     res: &[u8],
 ) -> Outcome {
     if written.number == 0 {
-        return keep_imported(written, res, kept);
+        return keep_imported(rt, written, res, kept);
     }
     let rows = aiger_faults::count_rows(text);
     if both(longer, both(written.number == 24, MOST_ROWS < rows)) {
-        return fail_longer(source, rows);
+        return fail_longer(rt, source, rows);
     }
-    refuse_import(source, text, written)
+    refuse_import(rt, source, text, written)
 }
 
 // The text's file, in lent memory.
-fn import_text(source: &[u8], text: &[u8], longer: bool, kept: &[u8]) -> Outcome {
+fn import_text(rt: &Call, source: &[u8], text: &[u8], longer: bool, kept: &[u8]) -> Outcome {
     let mut result = result_room();
     let mut work = work_room();
     let written = phasefold::c_import::pf_import(text, &mut result, &mut work);
-    tell_import(source, text, longer, kept, written, &result)
+    tell_import(rt, source, text, longer, kept, written, &result)
 }
 
 // The text is read.
-fn import_from(source: &[u8], kept: &[u8], room: &mut [u8]) -> Outcome {
-    match text::files::load(source, room) {
-        Loaded::Whole(size) => import_text(source, first(room, size), false, kept),
-        Loaded::Longer(size) => import_text(source, first(room, size), true, kept),
-        Loaded::Failed => fail_by_cause(source),
+fn import_from(rt: &Call, source: &[u8], kept: &[u8], room: &mut [u8]) -> Outcome {
+    match text::files::load(&rt.host, source, room) {
+        Loaded::Whole(size) => import_text(rt, source, first(room, size), false, kept),
+        Loaded::Longer(size) => import_text(rt, source, first(room, size), true, kept),
+        Loaded::Failed(cause) => fail_by_cause(rt, source, cause),
     }
 }
 
 // A netlist file at `kept` from the AIGER text in the file `source`.
-pub fn import(source: &[u8], kept: &[u8]) -> Outcome {
+pub fn import(rt: &Call, source: &[u8], kept: &[u8]) -> Outcome {
     let mut room = text_room();
-    import_from(source, kept, &mut room)
+    import_from(rt, source, kept, &mut room)
 }

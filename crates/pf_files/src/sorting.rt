@@ -1,16 +1,18 @@
 // Sort: a file whose gates stand in any order, put in order and kept.
 use c_answers::{PfRefusal, PfWritten};
 use pf_causes::refuse;
+use pf_words::calls::Call;
 use pf_words::outcome::{Outcome, done_with};
 use pf_words::rooms::{result_room, work_room};
 use pf_words::saving::save;
 use text::bytes::first;
 use text::out::one;
+use text::streams::Streams;
 
 // The sorted file, which is as long as the one given, is kept.
-fn keep_sorted(written: PfWritten, sorted: &[u8], kept: &[u8]) -> Outcome {
-    match save(kept, sorted) {
-        Outcome::Done => done_with(b"sorted # rows\n", one(written.rows as usize)),
+fn keep_sorted(rt: &Call, written: PfWritten, sorted: &[u8], kept: &[u8]) -> Outcome {
+    match save(rt, kept, sorted) {
+        Outcome::Done => done_with(rt, b"sorted # rows\n", one(written.rows as usize)),
         _ => Outcome::Failed,
     }
 }
@@ -30,12 +32,12 @@ fn sort_into(file: &[u8], res: &mut [u8]) -> PfWritten {
 }
 
 // The file sorted, and where the result is kept; or the refusal.
-pub fn sort(path: &[u8], file: &[u8], kept: &[u8]) -> Outcome {
+pub fn sort(rt: &Call, path: &[u8], file: &[u8], kept: &[u8]) -> Outcome {
     let mut result = result_room();
     let written = sort_into(file, &mut result);
     if written.number == 0 {
-        keep_sorted(written, first(&result, file.len()), kept)
+        keep_sorted(rt, written, first(&result, file.len()), kept)
     } else {
-        refuse(path, 0, file, sort_refusal(written), b"")
+        refuse(rt, path, 0, file, sort_refusal(written), b"")
     }
 }
