@@ -7,17 +7,12 @@ pub struct Call {
     pub keeps_on_output: bool,
 }
 
-// Where what is printed goes.
-fn printed_to(keeps_on_output: bool, fd: i32) -> i32 {
-    match fd {
-        OUTPUT if keeps_on_output => ERRORS,
-        _ => fd,
-    }
-}
-
 impl Streams for Call {
     fn write_to(&self, fd: i32, bytes: &[u8]) -> bool {
-        self.host
-            .write_to(printed_to(self.keeps_on_output, fd), bytes)
+        let to = match fd {
+            OUTPUT if self.keeps_on_output => ERRORS,
+            _ => fd,
+        };
+        self.host.write_to(to, bytes)
     }
 }

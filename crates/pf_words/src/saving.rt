@@ -5,6 +5,7 @@ use crate::outcome::{OUTPUT, Outcome, fail_at, fail_by_cause, outcome_if};
 use std::fs::{Files, OpenFile, OpenOptions};
 use std::io::Write;
 use std::{fs, io};
+use text::both;
 use text::bytes::{first, same};
 use text::files::{Loaded, load};
 use text::streams::Streams;
@@ -27,51 +28,29 @@ fn synced<F: OpenFile>(file: &F) -> io::Result<()> {
     }
 }
 
-// The file of this name, to be written where it begins.
-fn open_written<R: Files>(rt: &R, name: &str) -> io::Result<R::File> {
-    OpenOptions::new().write(true).open(rt, name)
-}
-
 // The result is written.
 fn write_new<R: Files>(rt: &R, bytes: &[u8]) -> io::Result<()> {
-    let mut file = open_written(rt, NEW)?;
+    let mut file = OpenOptions::new().write(true).open(rt, NEW)?;
     file.write_all(bytes)?;
     synced(&file)
 }
 
-// Whether standard output is a plain file. No other is opened again: that of a pipe which nobody reads any more would wait for a reader.
-fn prints_to_file<R: Files>(rt: &R) -> bool {
-    match fs::metadata(rt, PRINTED) {
-        Ok(found) => found.is_file(),
-        Err(_) => false,
-    }
-}
-
-// Whether all that standard output has is on its device, if it is a plain file that this process may open.
+// Whether all that standard output has is on its device, if it is a plain file that this process may open. No other is opened again: that of a pipe which nobody reads any more would wait for a reader.
 fn output_synced<R: Files>(rt: &R) -> bool {
-    if !prints_to_file(rt) {
-        return true;
-    }
-    match open_written(rt, PRINTED) {
-        Ok(file) => synced(&file).is_ok(),
-        Err(_) => true,
-    }
-}
-
-// The result is written to standard output; whether that went well.
-fn write_output(rt: &(impl Streams + Files), bytes: &[u8]) -> bool {
-    if rt.write_to(OUTPUT, bytes) {
-        output_synced(rt)
-    } else {
-        false
+    match fs::metadata(rt, PRINTED) {
+        Ok(found) if found.is_file() => match OpenOptions::new().write(true).open(rt, PRINTED) {
+            Ok(file) => synced(&file).is_ok(),
+            Err(_) => true,
+        },
+        _ => true,
     }
 }
 
-// The same; a failure is told with the result's name.
+// The result is written to standard output or to its file; a failure is told with the result's name.
 fn save_new(rt: &Call, path: &[u8], bytes: &[u8]) -> Outcome {
     if same(path, b"-") {
-        let right = write_output(&rt.host, bytes);
-        return outcome_if(rt, right, Outcome::Done);
+        let written = rt.host.write_to(OUTPUT, bytes);
+        return outcome_if(rt, both(written, output_synced(&rt.host)), Outcome::Done);
     }
     match write_new(&rt.host, bytes) {
         Ok(()) => Outcome::Done,
