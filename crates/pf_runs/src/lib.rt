@@ -2,4 +2,4 @@
 #![tactic(auto)]
 
 pub mod folding;
-pub mod run;
+pub mod running;

@@ -1,4 +1,6 @@
 // Trace: values of a fold taken back to the original, as a text that Run takes, and what the original's last step shows on them.
+#![tactic(auto)]
+
 use c_answers::{PfCounts, PfRefusal, PfTraced};
 use fold_answers::Folding;
 use listing::folds::CLOCK_ENTRIES;
@@ -8,12 +10,14 @@ use pf_causes::text_causes::Encoding;
 use pf_causes::values::{
     Asked, Given, Values, load_values, put_step, put_steps, refuse_memory, refuse_values, run_into,
 };
+use pf_words::calls::Call;
 use pf_words::outcome::{
     OUTPUT, Outcome, fail_word, finish, say, say_text, say_where, tell_refusal,
 };
 use text::bytes::{first, least, rest, same, wide};
 use text::numbers::Number;
 use text::out::{Out, one, put, put_filled, three, to};
+use text::streams::Streams;
 use text::{both, either};
 
 const MOST_GROUPS: u32 = 512;
@@ -62,14 +66,15 @@ fn steps_of(wanted: Wanted, phases: u32) -> usize {
 // ---- refusals 26 to 28
 
 // 26; the words are those of the call.
-fn say_groups(wanted: Wanted, groups: &[u8], phase: &[u8], phases: u32) {
+fn say_groups(rt: &impl Streams, wanted: Wanted, groups: &[u8], phase: &[u8], phases: u32) {
     if either(wanted.groups == 0, MOST_GROUPS < wanted.groups) {
-        say_text(groups);
-        say_text(b" groups, and a trace has 1 to 512");
+        say_text(rt, groups);
+        say_text(rt, b" groups, and a trace has 1 to 512");
     } else {
-        say_text(b"the phase ");
-        say_text(phase);
+        say_text(rt, b"the phase ");
+        say_text(rt, phase);
         say(
+            rt,
             b" is not below #, the number of phases of the fold",
             one(phases as usize),
         );
@@ -77,24 +82,31 @@ fn say_groups(wanted: Wanted, groups: &[u8], phase: &[u8], phases: u32) {
 }
 
 // 28
-fn say_room(file: &[u8], wanted: Wanted, phases: u32) {
+fn say_room(rt: &impl Streams, file: &[u8], wanted: Wanted, phases: u32) {
     let counts = phasefold::c_count::pf_count(file);
     let steps = steps_of(wanted, phases);
     let size = values_in_all(counts, steps);
     let unknown = counts.unknown as usize;
     let inputs = counts.inputs as usize;
     say(
+        rt,
         b"the trace has # values, # for X registers and # for inputs at each of # steps, and pf has room for 1000000",
         [size, unknown, inputs, steps, 0, 0],
     );
 }
 
 // 27
-fn refuse_fold_values(refusal: PfRefusal, source: &[u8], taken: Taken) -> Outcome {
+fn refuse_fold_values(
+    rt: &impl Streams,
+    refusal: PfRefusal,
+    source: &[u8],
+    taken: Taken,
+) -> Outcome {
     let asked = taken.asked;
     let values = taken.values;
     let right = values_in_all(asked.counts, asked.steps as usize);
     refuse_values(
+        rt,
         refusal,
         source,
         values.count != right,
@@ -106,6 +118,7 @@ fn refuse_fold_values(refusal: PfRefusal, source: &[u8], taken: Taken) -> Outcom
 
 // 26 and 28
 fn refuse_groups(
+    rt: &impl Streams,
     refusal: PfRefusal,
     path: &[u8],
     file: &[u8],
@@ -114,28 +127,35 @@ fn refuse_groups(
     wanted: Wanted,
     phases: u32,
 ) -> Outcome {
-    let outcome = tell_refusal(refusal);
+    let outcome = tell_refusal(rt, refusal);
     let number = refusal.number;
-    say_where(path, 0);
+    say_where(rt, path, 0);
     if number == 26 {
-        say_groups(wanted, groups, phase, phases);
+        say_groups(rt, wanted, groups, phase, phases);
     } else {
-        say_room(file, wanted, phases);
+        say_room(rt, file, wanted, phases);
     }
-    say_text(b"\n");
+    say_text(rt, b"\n");
     outcome
 }
 
 // ---- the trace as a text of values
 
 // How many steps there are, and what the last one is in the fold.
-fn put_steps_remark(buffer: &mut [u8], out: Out, wanted: Wanted, steps: u32) -> Out {
+fn put_steps_remark(
+    rt: &impl Streams,
+    buffer: &mut [u8],
+    out: Out,
+    wanted: Wanted,
+    steps: u32,
+) -> Out {
     let last = std::num::wrapping_sub_u32(steps, 1) as usize;
     let group = std::num::wrapping_sub_u32(wanted.groups, 1) as usize;
-    let named = put(buffer, out, b"# steps of the original: ");
-    let counted = put_filled(buffer, named, b"#\n", one(steps as usize));
-    let begun = put(buffer, counted, b"# the last one is step ");
+    let named = put(rt, buffer, out, b"# steps of the original: ");
+    let counted = put_filled(rt, buffer, named, b"#\n", one(steps as usize));
+    let begun = put(rt, buffer, counted, b"# the last one is step ");
     put_filled(
+        rt,
         buffer,
         begun,
         b"#, which is phase # of group # of the fold; all three are counted from 0\n",
@@ -144,16 +164,18 @@ fn put_steps_remark(buffer: &mut [u8], out: Out, wanted: Wanted, steps: u32) -> 
 }
 
 // What the lines are for.
-fn put_lines_remark(buffer: &mut [u8], out: Out, counts: PfCounts) -> Out {
+fn put_lines_remark(rt: &impl Streams, buffer: &mut [u8], out: Out, counts: PfCounts) -> Out {
     if counts.unknown == 0 {
         if counts.inputs == 0 {
             put(
+                rt,
                 buffer,
                 out,
                 b"# no X registers and no inputs, so no values\n",
             )
         } else {
             put(
+                rt,
                 buffer,
                 out,
                 b"# a line for each step: its inputs, in row order\n",
@@ -161,12 +183,14 @@ fn put_lines_remark(buffer: &mut [u8], out: Out, counts: PfCounts) -> Out {
         }
     } else if counts.inputs == 0 {
         put(
+            rt,
             buffer,
             out,
             b"# a line for the X registers, in row order; there are no inputs\n",
         )
     } else {
         put(
+            rt,
             buffer,
             out,
             b"# a line for the X registers, then a line for each step: its inputs; all in row order\n",
@@ -175,41 +199,56 @@ fn put_lines_remark(buffer: &mut [u8], out: Out, counts: PfCounts) -> Out {
 }
 
 // The line of the X registers, if there are any.
-fn put_choices(buffer: &mut [u8], out: Out, choices: &[u8]) -> Out {
+fn put_choices(rt: &impl Streams, buffer: &mut [u8], out: Out, choices: &[u8]) -> Out {
     if choices.len() == 0 {
         out
     } else {
-        put_step(buffer, out, choices)
+        put_step(rt, buffer, out, choices)
     }
 }
 
 // The lines of the steps, if there are inputs.
-fn put_inputs(buffer: &mut [u8], out: Out, values: &[u8], steps: u32, inputs: usize) -> Out {
+fn put_inputs(
+    rt: &impl Streams,
+    buffer: &mut [u8],
+    out: Out,
+    values: &[u8],
+    steps: u32,
+    inputs: usize,
+) -> Out {
     if inputs == 0 {
         out
     } else {
-        put_steps(buffer, out, values, steps, inputs)
+        put_steps(rt, buffer, out, values, steps, inputs)
     }
 }
 
 // The values, in lines.
-fn put_values(buffer: &mut [u8], out: Out, asked: Asked, left: &[u8]) -> Out {
+fn put_values(rt: &impl Streams, buffer: &mut [u8], out: Out, asked: Asked, left: &[u8]) -> Out {
     let counts = asked.counts;
     let unknown = counts.unknown as usize;
     let inputs = counts.inputs as usize;
-    let chosen = put_choices(buffer, out, first(left, unknown));
-    put_inputs(buffer, chosen, rest(left, unknown), asked.steps, inputs)
+    let chosen = put_choices(rt, buffer, out, first(left, unknown));
+    put_inputs(rt, buffer, chosen, rest(left, unknown), asked.steps, inputs)
 }
 
 // The remark of an output.
-fn put_output(buffer: &mut [u8], out: Out, step: usize, label: usize, value: u8) -> Out {
-    let begun = put(buffer, out, b"# step ");
+fn put_output(
+    rt: &impl Streams,
+    buffer: &mut [u8],
+    out: Out,
+    step: usize,
+    label: usize,
+    value: u8,
+) -> Out {
+    let begun = put(rt, buffer, out, b"# step ");
     let numbers = three(step, label, wide(value));
-    put_filled(buffer, begun, b"#: output # shows #\n", numbers)
+    put_filled(rt, buffer, begun, b"#: output # shows #\n", numbers)
 }
 
 // A remark for each output, in row order, with what it shows at the step; none if nothing is shown. Outputs follow the nodes.
 fn put_outputs(
+    rt: &impl Streams,
     buffer: &mut [u8],
     out: Out,
     file: &[u8],
@@ -221,41 +260,70 @@ fn put_outputs(
     let mut i = 0;
     'outputs: while i < shown.len() {
         let fields = fields_of(file, std::num::wrapping_add_usize(nodes, i));
-        now = put_output(buffer, now, step, fields.b, shown[i]);
+        now = put_output(rt, buffer, now, step, fields.b, shown[i]);
         i += 1;
     }
     now
 }
 
 // The text; `shown` are the outputs of the last step, or none.
-fn tell_trace(file: &[u8], wanted: Wanted, asked: Asked, left: &[u8], shown: &[u8]) -> Outcome {
-    let mut room = io::large_buffer();
+fn tell_trace(
+    rt: &impl Streams,
+    file: &[u8],
+    wanted: Wanted,
+    asked: Asked,
+    left: &[u8],
+    shown: &[u8],
+) -> Outcome {
+    let mut room = text::rooms::large_buffer();
     let counts = asked.counts;
     let last = std::num::wrapping_sub_u32(asked.steps, 1) as usize;
-    let counted = put_steps_remark(&mut room, to(OUTPUT), wanted, asked.steps);
-    let begun = put_lines_remark(&mut room, counted, counts);
-    let valued = put_values(&mut room, begun, asked, left);
-    let out = put_outputs(&mut room, valued, file, counts.nodes as usize, last, shown);
-    finish(&room, out, Outcome::Done)
+    let counted = put_steps_remark(rt, &mut room, to(OUTPUT), wanted, asked.steps);
+    let begun = put_lines_remark(rt, &mut room, counted, counts);
+    let valued = put_values(rt, &mut room, begun, asked, left);
+    let out = put_outputs(
+        rt,
+        &mut room,
+        valued,
+        file,
+        counts.nodes as usize,
+        last,
+        shown,
+    );
+    finish(rt, &room, out, Outcome::Done)
 }
 
 // The text, with what the run shows at the last step. Run takes every trace, and can refuse it for its memory alone.
-fn tell_run(path: &[u8], file: &[u8], wanted: Wanted, asked: Asked, left: &[u8]) -> Outcome {
+fn tell_run(
+    rt: &impl Streams,
+    path: &[u8],
+    file: &[u8],
+    wanted: Wanted,
+    asked: Asked,
+    left: &[u8],
+) -> Outcome {
     let mut room = text::files::long_room();
     let result: &mut [u8] = &mut room;
     let refusal = run_into(file, asked, left, result);
     if refusal.number != 0 {
-        return refuse_memory(refusal, path, asked);
+        return refuse_memory(rt, refusal, path, asked);
     }
     let counts = asked.counts;
     let outputs = counts.outputs as usize;
     let last = std::num::wrapping_sub_u32(asked.steps, 1) as usize;
     let shown = first(rest(result, in_all(last, outputs)), outputs);
-    tell_trace(file, wanted, asked, left, shown)
+    tell_trace(rt, file, wanted, asked, left, shown)
 }
 
 // The trace of so many steps, at the start of the trace memory, is told.
-fn tell_wanted(path: &[u8], file: &[u8], wanted: Wanted, steps: u32, left: &[u8]) -> Outcome {
+fn tell_wanted(
+    rt: &impl Streams,
+    path: &[u8],
+    file: &[u8],
+    wanted: Wanted,
+    steps: u32,
+    left: &[u8],
+) -> Outcome {
     let counts = phasefold::c_count::pf_count(file);
     let asked = Asked {
         steps: steps,
@@ -264,9 +332,9 @@ fn tell_wanted(path: &[u8], file: &[u8], wanted: Wanted, steps: u32, left: &[u8]
     };
     let trace = first(left, values_in_all(counts, steps as usize));
     if wanted.runs {
-        tell_run(path, file, wanted, asked, trace)
+        tell_run(rt, path, file, wanted, asked, trace)
     } else {
-        tell_trace(file, wanted, asked, trace, b"")
+        tell_trace(rt, file, wanted, asked, trace, b"")
     }
 }
 
@@ -281,7 +349,7 @@ enum Folded {
 
 // The fold by this wish.
 fn fold_of(file: &[u8], wish: u32) -> Folded {
-    let mut result = io::large_buffer();
+    let mut result = text::rooms::large_buffer();
     let mut work = listing::folds::work_room();
     let folding = fold_core::fold_core(file, wish, &mut result, &mut work, CLOCK_ENTRIES);
     match folding {
@@ -325,7 +393,7 @@ fn trace_into(
     bytes: &[u8],
     left: &mut [u8],
 ) -> PfTraced {
-    let mut result = io::large_buffer();
+    let mut result = text::rooms::large_buffer();
     let mut work = listing::folds::work_room();
     let choices = first(bytes, unknown);
     let inputs = rest(bytes, unknown);
@@ -334,6 +402,7 @@ fn trace_into(
 
 // The values of the fold taken back, or the refusal.
 fn trace_taken(
+    rt: &impl Streams,
     path: &[u8],
     file: &[u8],
     wish: &[u8],
@@ -355,15 +424,16 @@ fn trace_taken(
     };
     let number = traced.number;
     match number {
-        0 => tell_wanted(path, file, wanted, traced.steps, left),
-        26 | 28 => refuse_groups(refusal, path, file, groups, phase, wanted, taken.phases),
-        27 => refuse_fold_values(refusal, source, taken),
-        _ => refuse(path, 0, file, refusal, wish),
+        0 => tell_wanted(rt, path, file, wanted, traced.steps, left),
+        26 | 28 => refuse_groups(rt, refusal, path, file, groups, phase, wanted, taken.phases),
+        27 => refuse_fold_values(rt, refusal, source, taken),
+        _ => refuse(rt, path, 0, file, refusal, wish),
     }
 }
 
 // The fold tells how many values there should be.
 fn trace_values(
+    rt: &impl Streams,
     path: &[u8],
     file: &[u8],
     wish: &[u8],
@@ -388,15 +458,16 @@ fn trace_values(
                 values: values,
             };
             trace_taken(
-                path, file, wish, groups, phase, source, wanted, bytes, taken,
+                rt, path, file, wish, groups, phase, source, wanted, bytes, taken,
             )
         }
-        Folded::Refused(refusal) => refuse(path, 0, file, refusal, wish),
+        Folded::Refused(refusal) => refuse(rt, path, 0, file, refusal, wish),
     }
 }
 
 // The values are read.
 fn trace_from(
+    rt: &Call,
     path: &[u8],
     file: &[u8],
     wish: &[u8],
@@ -406,8 +477,9 @@ fn trace_from(
     wanted: Wanted,
 ) -> Outcome {
     let mut room = text::files::long_room();
-    match load_values(source, &mut room) {
+    match load_values(rt, source, &mut room) {
         Given::Values(values, encoding) => trace_values(
+            rt,
             path,
             file,
             wish,
@@ -441,6 +513,7 @@ fn number_of(word: &[u8]) -> u32 {
 
 // The file, the wish, the groups, the phase and the values; the last word is --run, and may be left out.
 pub fn trace(
+    rt: &Call,
     count: usize,
     path: &[u8],
     file: &[u8],
@@ -452,16 +525,16 @@ pub fn trace(
 ) -> Outcome {
     let runs = 5 < count;
     if both(runs, !same(last, b"--run")) {
-        return fail_word(b"the last word ", last, b" is not --run\n");
+        return fail_word(rt, b"the last word ", last, b" is not --run\n");
     }
     if !is_number(wish) {
-        return fail_word(b"the wish ", wish, b" is not a number\n");
+        return fail_word(rt, b"the wish ", wish, b" is not a number\n");
     }
     if !is_number(groups) {
-        return fail_word(b"the groups ", groups, b" are not a number\n");
+        return fail_word(rt, b"the groups ", groups, b" are not a number\n");
     }
     if !is_number(phase) {
-        return fail_word(b"the phase ", phase, b" is not a number\n");
+        return fail_word(rt, b"the phase ", phase, b" is not a number\n");
     }
     let wanted = Wanted {
         wish: number_of(wish),
@@ -469,5 +542,5 @@ pub fn trace(
         phase: number_of(phase),
         runs: runs,
     };
-    trace_from(path, file, wish, groups, phase, source, wanted)
+    trace_from(rt, path, file, wish, groups, phase, source, wanted)
 }
