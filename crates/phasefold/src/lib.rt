@@ -1,4 +1,4 @@
-// The phase folder's public library: Check, Count, Show, Sort, Import, Run, Fold and Trace, and a file for each with its export to C, where a slice is a pointer and a length, and one for the interface's number.
+// The phase folder's public library: Check, Count, Show, Sort, Import, Run, Fold and Trace, and a file for each with its form for C, where an answer is a struct of numbers and a slice is a pointer and a length, and one for the interface's number. The exports are those of `phasefold_c`.
 #![tactic(auto)]
 
 pub use accept::{Acceptance, FileRefusal, accept as check};
