@@ -1,8 +1,9 @@
 # Sourced by the script pf: the file in which a result is kept.
 #
-# The program reads what stands at the result's name on descriptor 5, and writes the new file to descriptor 6. That is a
-# file beside the result, with a name of its own, which only its owner may read. Once the program is done, it takes the
-# result's place, with the result's mode; in every other case it goes, also if this script is ended by a signal.
+# The program reads what stands at the result's name on descriptor 5, and writes the new file to descriptor 6; it opens
+# both again, by /proc/self/fd. The new file lies beside the result, with a name of its own, and only its owner may read
+# it. Once the program is done, it takes the result's place, with the result's mode; in every other case it goes, also if
+# this script is ended by a signal.
 side=
 
 drop_side() {
@@ -48,11 +49,11 @@ keep_apart() {
     fi
 }
 
-# open_result RESULT: - is standard output, and then what is printed goes to standard error.
+# open_result RESULT: - is standard output, to which the program itself writes then, and what it prints to standard error.
 open_result() {
     result=$1
     if [ "$result" = - ]; then
-        exec 5</dev/null 6>&1 1>&2
+        exec 5</dev/null
         return
     fi
     case $result in
