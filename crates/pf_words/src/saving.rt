@@ -7,7 +7,6 @@ use std::io::Write;
 use std::{fs, io};
 use text::bytes::{first, same};
 use text::files::{Loaded, load};
-use text::streams::Streams;
 
 const OLD: &[u8] = b"/proc/self/fd/5";
 
@@ -59,9 +58,9 @@ fn output_synced<R: Files>(rt: &R) -> bool {
 }
 
 // The result is written to standard output; whether that went well.
-fn write_output(rt: &(impl Streams + Files), bytes: &[u8]) -> bool {
-    if rt.write_to(OUTPUT, bytes) {
-        output_synced(rt)
+fn write_output(rt: &Call, bytes: &[u8]) -> bool {
+    if rt.write_on(OUTPUT, bytes) {
+        output_synced(&rt.host)
     } else {
         false
     }
@@ -70,7 +69,7 @@ fn write_output(rt: &(impl Streams + Files), bytes: &[u8]) -> bool {
 // The same; a failure is told with the result's name.
 fn save_new(rt: &Call, path: &[u8], bytes: &[u8]) -> Outcome {
     if same(path, b"-") {
-        let right = write_output(&rt.host, bytes);
+        let right = write_output(rt, bytes);
         return outcome_if(rt, right, Outcome::Done);
     }
     match write_new(&rt.host, bytes) {
