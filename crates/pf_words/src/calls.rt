@@ -1,10 +1,34 @@
 // A call of pf: what it reads and writes. Where its result goes to standard output, what it prints goes to standard error.
+// Once nobody reads what it writes, it writes nothing more, as if it had been ended by that.
+use std::cell::Cell;
+use std::io::{ErrorKind, Print};
 use text::streams::{ERRORS, OUTPUT, Streams};
 
-#[derive(Clone, Copy)]
+#[derive(Drop)]
 pub struct Call {
     pub host: HostRuntime,
     pub keeps_on_output: bool,
+    pub unread: Cell<bool>,
+}
+
+impl Call {
+    // Writes all bytes to standard output, or else to standard error; whether that went well.
+    pub fn write_on(&self, fd: i32, bytes: &[u8]) -> bool {
+        if self.unread.get() {
+            return false;
+        }
+        let written = match fd {
+            OUTPUT => Print::write_all(&self.host.stdout(), bytes),
+            _ => Print::write_all(&self.host.stderr(), bytes),
+        };
+        match written {
+            Ok(()) => true,
+            Err(cause) => {
+                self.unread.set(cause.kind() == ErrorKind::BrokenPipe);
+                false
+            }
+        }
+    }
 }
 
 impl Streams for Call {
@@ -13,6 +37,6 @@ impl Streams for Call {
             OUTPUT if self.keeps_on_output => ERRORS,
             _ => fd,
         };
-        self.host.write_to(to, bytes)
+        self.write_on(to, bytes)
     }
 }

@@ -8,7 +8,6 @@ use std::{fs, io};
 use text::both;
 use text::bytes::{first, same};
 use text::files::{Loaded, load};
-use text::streams::Streams;
 
 const OLD: &[u8] = b"/proc/self/fd/5";
 
@@ -35,22 +34,21 @@ fn write_new<R: Files>(rt: &R, bytes: &[u8]) -> io::Result<()> {
     synced(&file)
 }
 
-// Whether all that standard output has is on its device, if it is a plain file that this process may open. No other is opened again: that of a pipe which nobody reads any more would wait for a reader.
-fn output_synced<R: Files>(rt: &R) -> bool {
-    match fs::metadata(rt, PRINTED) {
-        Ok(found) if found.is_file() => match OpenOptions::new().write(true).open(rt, PRINTED) {
-            Ok(file) => synced(&file).is_ok(),
-            Err(_) => true,
-        },
-        _ => true,
-    }
-}
-
-// The result is written to standard output or to its file; a failure is told with the result's name.
+// The result is written to standard output, and put on its device if that is a plain file which this process may open; or it is written to its file. A failure is told with the result's name.
+// No other output is opened again: that of a pipe which nobody reads any more would wait for a reader.
 fn save_new(rt: &Call, path: &[u8], bytes: &[u8]) -> Outcome {
     if same(path, b"-") {
-        let written = rt.host.write_to(OUTPUT, bytes);
-        return outcome_if(rt, both(written, output_synced(&rt.host)), Outcome::Done);
+        let written = rt.write_on(OUTPUT, bytes);
+        let kept = match fs::metadata(&rt.host, PRINTED) {
+            Ok(found) if found.is_file() => {
+                match OpenOptions::new().write(true).open(&rt.host, PRINTED) {
+                    Ok(file) => synced(&file).is_ok(),
+                    Err(_) => true,
+                }
+            }
+            _ => true,
+        };
+        return outcome_if(rt, both(written, kept), Outcome::Done);
     }
     match write_new(&rt.host, bytes) {
         Ok(()) => Outcome::Done,
