@@ -8,6 +8,7 @@ use call::Command;
 use listing::rows::file_room;
 use pf_words::calls::Call;
 use pf_words::outcome::{Outcome, fail, fail_by_cause, tell_status};
+use std::cell::Cell;
 use std::env::Env;
 use std::process::ExitCode;
 use text::bytes::{first, same};
@@ -178,12 +179,23 @@ fn keeps_on_output(rt: &impl Env, count: usize) -> bool {
     }
 }
 
+// The outcome; where nobody reads what the call writes, it has failed.
+fn outcome_if_read(call: &Call, outcome: Outcome) -> Outcome {
+    if call.unread.get() {
+        Outcome::Failed
+    } else {
+        outcome
+    }
+}
+
 // The outcome of the call is told.
 fn main(rt: HostRuntime) -> ExitCode {
     let count = std::num::wrapping_sub_usize(text::args::arg_count(&rt), 2);
     let call = Call {
         host: rt,
         keeps_on_output: keeps_on_output(&rt, count),
+        unread: Cell::new(false),
     };
-    tell_status(perform_words(&call, count))
+    let outcome = perform_words(&call, count);
+    tell_status(outcome_if_read(&call, outcome))
 }
