@@ -11,6 +11,8 @@ use lib.ListN.{length}
 use lib.Seq.{sets}
 use lib.Dec.{eqb}
 use borrow.Author.Tests.{eq-eqb, ne_eqb}
+use Rattle.std.specs.Prelude.{Result, Ok, Err}
+use Rattle.std.specs.Result.{result_unwrap_or}
 use Rattle.memory.specs.Fields.{byte_at, u32_at, u16_bytes, u32_bytes}
 use Rattle.memory.specs.Frames.{KeptOutside}
 use Rattle.memory.proofs.TestLaws.{last_or}
@@ -18,8 +20,7 @@ use Rattle.memory.proofs.ListLaws.{first_found, first-none}
 use Rattle.memory.proofs.FieldLaws.{zeros-at, u32-read}
 use Rattle.memory.proofs.FrameLaws.{u16-kept, kept-wider, kept-join, kept_sets, sets-at, u16-back}
 use Rattle.name_tree.specs.Trees.{variable_at, child_at, entry_of, Way, here, down, Tree, Added, Written, Missed, Ended}
-use Rattle.name_tree.specs.declared.End.{End}
-use Rattle.name_tree.specs.declared.End.TheVariants.{At, Open}
+use Rattle.name_tree.specs.declared.Open.{Open}
 
 -- ---- numbers that stay
 
@@ -145,24 +146,23 @@ module _ (w : List ℕ) (base n x : ℕ) (T : Tree w base n) where
 
 -- ---- where a way ends
 
-module _ (w : List ℕ) (base n x : ℕ) (r : End) (E : Ended w base n x r) where
-  pub found_at : (j : ℕ) → Tree w base n → r ≡ At j → j ≡ entry_of w base n x
-  found_at j T e = let f : Ended w base n x (At j) = rw e at E in sym (entry_first T f.0 f.1)
+module _ (w : List ℕ) (base n x : ℕ) (r : Result ℕ Open) (E : Ended w base n x r) where
+  pub found_inside : (j : ℕ) → Tree w base n → r ≡ Ok j → entry_of w base n x < n
+  found_inside j T e = let f : Ended w base n x (Ok j) = rw e at E in let g = entry_first T f.0 f.1 in omega (arith, f.0, g)
 
-  pub found_inside : (j : ℕ) → Tree w base n → r ≡ At j → entry_of w base n x < n
-  found_inside j T e = let f : Ended w base n x (At j) = rw e at E in omega (arith, f.0, found_at j T e)
+  pub open-missed : (o : Open) → r ≡ Err o → Missed w base n x o.entry o.bit
+  open-missed o e = rw e at E
 
-  pub open-missed : (i b : ℕ) → r ≡ Open i b → Missed w base n x i b
-  open-missed i b e = rw e at E
+  pub open-room : (o : Open) → Tree w base n → r ≡ Err o → base + 8 * o.entry + 8 ≤ length w
+  open-room o T e = omega (arith, T.fits, (open-missed o e).inside)
 
-  pub open-room : (i b : ℕ) → Tree w base n → r ≡ Open i b → base + 8 * i + 8 ≤ length w
-  open-room i b T e = omega (arith, T.fits, (open-missed i b e).inside)
+  pub open-bit : (o : Open) → r ≡ Err o → o.bit < 2
+  open-bit o e = (open-missed o e).bit
 
-  pub open-bit : (i b : ℕ) → r ≡ Open i b → b < 2
-  open-bit i b e = (open-missed i b e).bit
-
-  pub open_none : (i b : ℕ) → r ≡ Open i b → n ≡ entry_of w base n x
-  open_none i b e = sym (entry-missed (open-missed i b e))
+-- The number's entry, or n where the way ends open.
+pub entry_found : (w : List ℕ) (base n x : ℕ) (r : Result ℕ Open) → Ended w base n x r → Tree w base n → result_unwrap_or r n ≡ entry_of w base n x
+entry_found w base n x (Ok j) f T = sym (entry_first T f.0 f.1)
+entry_found w base n x (Err o) M T = sym (entry-missed M)
 
 -- ---- one entry more
 

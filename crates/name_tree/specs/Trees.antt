@@ -1,12 +1,11 @@
 -- Numbers in a binary tree of entries, in lent memory: entry j stands at base + 8 * j, its number in four bytes, then its two children in two bytes each. Entry 0 is the root; a child of 0 is none.
 -- Interface: variable_at, entry_of, Tree, Added; inside the crate child_at, Way, Written, Ended.
 -- Assumes nothing.
-use Rattle.std.specs.Prelude.{ℕ, ◌+◌, ◌*◌, ◌<◌, ◌≤◌, ◌/◌, ◌%◌, ◌^◌, ◌≡◌, List, length, eqb}
+use Rattle.std.specs.Prelude.{ℕ, ◌+◌, ◌*◌, ◌<◌, ◌≤◌, ◌/◌, ◌%◌, ◌^◌, ◌≡◌, List, length, Result, Ok, Err, eqb}
 use Rattle.memory.specs.Lists.{first_from}
 use Rattle.memory.specs.Fields.{u16_at, u32_at}
 use Rattle.memory.specs.Frames.{KeptOutside}
-use Rattle.name_tree.specs.declared.End.{End}
-use Rattle.name_tree.specs.declared.End.TheVariants.{At, Open}
+use Rattle.name_tree.specs.declared.Open.{Open}
 
 -- The number of entry j, and its child for bit b.
 abbrev pub variable_at : List ℕ → ℕ → ℕ → ℕ
@@ -55,6 +54,6 @@ pub record Missed (w : List ℕ) (base n x i b : ℕ) : Type 0 where
   pub ends : child_at w base i b ≡ 0
   pub absent : (j : ℕ) → j < n → ¬ (variable_at w base j ≡ x)
 
-abbrev pub Ended : List ℕ → ℕ → ℕ → ℕ → End → Type 0
-Ended w base n x (At j) = (j < n) × (variable_at w base j ≡ x)
-Ended w base n x (Open i b) = Missed w base n x i b
+abbrev pub Ended : List ℕ → ℕ → ℕ → ℕ → Result ℕ Open → Type 0
+Ended w base n x (Ok j) = (j < n) × (variable_at w base j ≡ x)
+Ended w base n x (Err o) = Missed w base n x o.entry o.bit

@@ -7,11 +7,11 @@ ghost use Rattle.std.proofs.lemmas.List.Edits.{sets};
 ghost use Rattle.memory.specs.Fields.{u16_bytes};
 ghost use Rattle.name_tree.specs.Trees.{child_at, entry_of, Tree, Added, Written, Ended};
 
-// How far a way goes: to the entry of the number, or to one that has no child for its next bit.
+// An entry where a way ends open, and the bit for which it has no child.
 #[derive(Clone, Copy)]
-enum End {
-    At(usize),
-    Open(usize, usize),
+struct Open {
+    entry: usize,
+    bit: usize,
 }
 
 // The child of the entry for the bit; 0 if it has none.
@@ -36,24 +36,24 @@ fn set_child(work: &mut [u8], base: usize, entry: usize, bit: usize, child: usiz
     memory::write_u16(work, at, child as u32);
 }
 
-// The way to the number, from the root.
-fn find_end(work: &[u8], base: usize, count: usize, number: u32) -> End
+// The way to the number, from the root: the number's entry, or where the way ends open.
+fn find_end(work: &[u8], base: usize, count: usize, number: u32) -> Result<usize, Open>
     requires { Tree work.now base count × (0 < count) }
     ensures { Ended work.now base count number result }
 {
     let mut entry = 0;
     let mut rest = number;
-    'way: loop {
+    loop {
         let offset = base + 8 * entry;
         if memory::read_u32(work, offset) == number {
-            return End::At(entry);
+            return Ok(entry);
         }
         let bit = (rest % 2) as usize;
         let next = child_at(work, base, entry, bit);
         if next == 0 {
-            return End::Open(entry, bit);
+            return Err(Open { entry, bit });
         }
-        rest = rest / 2;
+        rest /= 2;
         entry = next;
     }
 }
@@ -66,10 +66,7 @@ pub fn find_entry(work: &[u8], base: usize, count: usize, number: u32) -> usize
     if count == 0 {
         return 0;
     }
-    match find_end(work, base, count, number) {
-        End::At(entry) => entry,
-        End::Open(_, _) => count,
-    }
+    find_end(work, base, count, number).unwrap_or(count)
 }
 
 // The entry's number, without children.
@@ -94,12 +91,10 @@ pub fn add_entry(work: &mut [u8], base: usize, count: usize, number: u32) -> boo
         write_entry(work, base, count, number);
         return true;
     }
-    match find_end(work, base, count, number) {
-        End::At(_) => false,
-        End::Open(entry, bit) => {
-            set_child(&mut *work, base, entry, bit, count);
-            write_entry(work, base, count, number);
-            true
-        }
-    }
+    let Err(open) = find_end(work, base, count, number) else {
+        return false;
+    };
+    set_child(&mut *work, base, open.entry, open.bit, count);
+    write_entry(work, base, count, number);
+    true
 }

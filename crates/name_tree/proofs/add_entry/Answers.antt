@@ -11,8 +11,8 @@ returns-then-count-eq0 c = record { added = λ _. search added-root; number_boun
 pub set_child-requires : goal.set_child-requires
 set_child-requires c = search (open-room, open-bit, rules)
 
-pub returns-in-At : goal.returns-in-At
-returns-in-At c = record { added = λ e. absurd (false≢true e); number_bound = λ _. search found_inside; work_len_unchanged = search rules }
+pub returns-in_default : goal.returns-in_default
+returns-in_default c = record { added = λ e. absurd (false≢true e); number_bound = λ _. search found_inside; work_len_unchanged = search rules }
 
-pub returns-in-Open : goal.returns-in-Open
-returns-in-Open c = record { added = λ _. search (added-child, open-missed); number_bound = λ e. absurd (true≢false e); work_len_unchanged = search rules }
+pub returns : goal.returns
+returns c = record { added = λ _. search (added-child, open-missed); number_bound = λ e. absurd (true≢false e); work_len_unchanged = search rules }

@@ -1,15 +1,14 @@
-use Prim.Native.Nat.{◌-◌}
 use Rattle.name_tree.proofs.TreeLaws.{way-start, way_step, way-missed, step-later}
 use Rattle.name_tree.proofs.find_end.Goals as goal
 
-pub way-init : goal.way-init
-way-init c = search way-start
+pub loop-base-init : goal.loop-base-init
+loop-base-init c = search way-start
 
 pub returns-then-next-eq0 : goal.returns-then-next-eq0
 returns-then-next-eq0 c = search way-missed
 
-pub way-smaller : goal.way-smaller
-way-smaller c = search step-later
+pub loop-base-smaller : goal.loop-base-smaller
+loop-base-smaller c = search step-later
 
-pub way-preserved : goal.way-preserved
-way-preserved c = search way_step
+pub loop-base-preserved : goal.loop-base-preserved
+loop-base-preserved c = search way_step

@@ -4,8 +4,8 @@ use Prim.Native.Nat.{◌-◌}
 use Rattle.name_tree.proofs.TreeLaws.{OnWay}
 use Rattle.name_tree.proofs.find_end.Given as goal
 
-abbrev pub invariant-way : goal.invariant-way
-invariant-way l = OnWay l.work l.base l.count l.number l.entry l.rest
+abbrev pub invariant-loop-base : goal.invariant-loop-base
+invariant-loop-base l = OnWay l.work l.base l.count l.number l.entry l.rest
 
-abbrev pub decreases-way : goal.decreases-way
-decreases-way l = l.count - l.entry
+abbrev pub decreases-loop-base : goal.decreases-loop-base
+decreases-loop-base l = l.count - l.entry
