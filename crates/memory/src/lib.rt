@@ -76,10 +76,8 @@ pub fn set_slot(slots: &mut [u8], index: usize, value: usize)
 pub fn clear_from(s: &mut [u8], at: usize)
     ensures { s.new ≡ take at s.old ++ replicate (length s.old - at) 0 }
 {
-    let mut i = at;
-    'clearing: while i < s.len() {
-        s[i] = 0;
-        i += 1;
+    if at < s.len() {
+        s[at..].fill(0);
     }
 }
 
