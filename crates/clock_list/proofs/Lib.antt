@@ -1,3 +1,2 @@
 -- Laws of the clock list.
-pub mod EntryLaws
 pub mod ListedLaws

@@ -23,7 +23,7 @@ pub struct Clock {
 fn byte_or_zero(work: &[u8], at: usize) -> u8
     ensures { result ≡ byte_at work.now at }
 {
-    if at < work.len() { work[at] } else { 0 }
+    work.get(at).copied().unwrap_or(0)
 }
 
 // The packed entry `index`.
@@ -32,19 +32,19 @@ fn entry_at(work: &[u8], index: usize) -> Clock
     ensures { result ≡ clock_of (entry_in work.now index) }
 {
     let offset = ENTRIES + 8 * index;
-    let label_low = byte_or_zero(work, offset) as u16;
-    let label_high = byte_or_zero(work, offset + 1) as u16;
+    let label_low = byte_or_zero(work, offset);
+    let label_high = byte_or_zero(work, offset + 1);
     let period = byte_or_zero(work, offset + 2);
     let word = byte_or_zero(work, offset + 3);
-    let ones_0 = byte_or_zero(work, offset + 4) as u32;
-    let ones_1 = byte_or_zero(work, offset + 5) as u32;
-    let ones_2 = byte_or_zero(work, offset + 6) as u32;
-    let ones_3 = byte_or_zero(work, offset + 7) as u32;
+    let ones_0 = byte_or_zero(work, offset + 4);
+    let ones_1 = byte_or_zero(work, offset + 5);
+    let ones_2 = byte_or_zero(work, offset + 6);
+    let ones_3 = byte_or_zero(work, offset + 7);
     Clock {
-        label: label_low + 256 * label_high,
-        period: period,
-        word: word,
-        ones: ones_0 + 256 * ones_1 + 65536 * ones_2 + 16777216 * ones_3,
+        label: u16::from_le_bytes([label_low, label_high]),
+        period,
+        word,
+        ones: u32::from_le_bytes([ones_0, ones_1, ones_2, ones_3]),
     }
 }
 
@@ -61,10 +61,7 @@ pub fn set_clocks(clocks: &mut [Clock], work: &[u8], used: usize)
     requires { (used ≤ length clocks.old) × (used ≤ fold_clock_entries) }
     ensures { clocks.new ≡ clocks_of (entries_in work.now used) ++ drop used clocks.old }
 {
-    let mut index = 0;
-    'entries: while index < used {
-        let clock = entry_at(work, index);
-        set_clock(clocks, index, clock);
-        index += 1;
+    for index in 0..used {
+        set_clock(clocks, index, entry_at(work, index));
     }
 }

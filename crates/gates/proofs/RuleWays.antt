@@ -1,6 +1,6 @@
 -- The rules for AND, XOR and MUX by the ways through the code: a law for each way, its premises the outcomes of the tests on it.
 -- Assumes nothing.
-use Prim.Native.Nat.{ℕ, ◌+◌, ◌*◌, ◌<◌, ◌≤◌, ◌/◌, ◌%◌, min, max}
+use Prim.Native.Nat.{ℕ, ◌+◌, ◌*◌, ◌/◌, ◌%◌}
 use mathlib.Core.Path.{◌≡◌, sym, ap, ◌∙◌}
 use mathlib.Core.Bool.{true, false}
 use native.Mathlib.Omega.{arith}
@@ -9,17 +9,8 @@ use borrow.Author.Tests.{eq-eqb, ne_eqb}
 use Rattle.netlist.specs.Rows.{mux_gate}
 use Rattle.abstraction.specs.GateMaking.{complement, new_row, make_and, make_xor, make_mux}
 use Rattle.gates.specs.declared.MadeImage.{MadeImage}
-use Rattle.gates.specs.declared.MadeImage.TheVariants.{Existing, NewRow}
+use Rattle.gates.specs.declared.MadeImage.TheVariants.{Existing}
 use Rattle.gates.specs.ImageCode.{image_code, pair_code}
-
--- ---- a pair of operands
-
-module _ (k a b n : ℕ) where
-  pub pair-less : a < b → NewRow (record { kind = k; reset = 0; a = a; b = b; c = 0 }) n ≡ pair_code k a b n
-  pair-less h = let e : min a b ≡ a = omega arith in let f : max a b ≡ b = omega arith in rw (e, f)
-
-  pub pair-more : b ≤ a → NewRow (record { kind = k; reset = 0; a = b; b = a; c = 0 }) n ≡ pair_code k a b n
-  pair-more h = let e : min a b ≡ b = omega arith in let f : max a b ≡ a = omega arith in rw (e, f)
 
 -- ---- AND
 

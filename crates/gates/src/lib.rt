@@ -34,29 +34,16 @@ pub fn complement(l: u16) -> u16
 fn pair_gate(kind: u8, a: u16, b: u16, complemented: u8) -> MadeImage
     ensures { result ≡ pair_code kind a b complemented }
 {
-    if a < b {
-        MadeImage::NewRow(
-            MadeRow {
-                kind,
-                reset: 0,
-                a,
-                b,
-                c: 0,
-            },
-            complemented,
-        )
-    } else {
-        MadeImage::NewRow(
-            MadeRow {
-                kind,
-                reset: 0,
-                a: b,
-                b: a,
-                c: 0,
-            },
-            complemented,
-        )
-    }
+    MadeImage::NewRow(
+        MadeRow {
+            kind,
+            reset: 0,
+            a: a.min(b),
+            b: a.max(b),
+            c: 0,
+        },
+        complemented,
+    )
 }
 
 pub fn make_and(a: u16, b: u16) -> MadeImage

@@ -4,7 +4,7 @@ use Rattle.std.proofs.Common.{arith}
 use Rattle.clock_list.proofs.ListedLaws.{listed_more}
 use Rattle.clock_list.proofs.set_clocks.Goals as goal
 
-pub entries-preserved : goal.entries-preserved
-entries-preserved c =
-    let next = listed_more c.args.work.now c.args.clocks.now c.entries.index (omega arith) in
-    (omega arith, rw (c.set_clock.ensures, c.entry_at-clock.ensures, c.entries.invariant.1) next)
+pub loop-index-preserved : goal.loop-index-preserved
+loop-index-preserved c =
+    let next = listed_more c.args.work.now c.args.clocks.now c.loop-index.index (omega arith) in
+    rw (c.set_clock.ensures, c.entry_at.ensures, c.loop-index.invariant) next
