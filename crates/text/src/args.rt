@@ -15,24 +15,18 @@ pub fn arg(rt: &impl Env, index: usize, room: &mut [u8]) -> usize
 
 // Whether there is such a word, and no room for all of it.
 pub fn is_too_long(rt: &impl Env, index: usize, room: &mut [u8]) -> bool {
-    match rt.arg(index, room) {
-        Err(FillError::TooLong) => true,
-        _ => false,
-    }
+    matches!(rt.arg(index, room), Err(FillError::TooLong))
 }
 
 // Whether there is such a word, however long.
 fn is_there(rt: &impl Env, index: usize) -> bool {
     let mut room = [0u8; 1];
-    match rt.arg(index, &mut room) {
-        Err(FillError::NotPresent) => false,
-        _ => true,
-    }
+    !matches!(rt.arg(index, &mut room), Err(FillError::NotPresent))
 }
 
 // How many words there are, the program's own name among them.
 pub fn arg_count(rt: &impl Env) -> usize {
-    'words: for index in 0..usize::MAX {
+    for index in 0..usize::MAX {
         if !is_there(rt, index) {
             return index;
         }

@@ -3,7 +3,7 @@ ghost use Rattle.std.specs.Prelude.{◌≡◌, ◌<◌, ◌≤◌, length};
 
 // The byte at `at`, and 0 past the end.
 pub fn get(bytes: &[u8], at: usize) -> u8 {
-    if at < bytes.len() { bytes[at] } else { 0 }
+    bytes.get(at).copied().unwrap_or(0)
 }
 
 // The byte at `at` becomes `value`.
@@ -19,52 +19,34 @@ pub fn put(bytes: &mut [u8], at: usize, value: u8)
 pub fn wide(byte: u8) -> usize
     ensures { result < 256 }
 {
-    byte as usize
+    usize::from(byte)
 }
 
 // Whether a byte parts words: a blank, a tab, or an end of line.
 pub fn is_blank(byte: u8) -> bool {
-    match byte {
-        b' ' => true,
-        b'\t' => true,
-        b'\r' => true,
-        b'\n' => true,
-        _ => false,
-    }
+    matches!(byte, b' ' | b'\t' | b'\r' | b'\n')
 }
 
 // The smaller of the two.
 pub fn least(x: usize, y: usize) -> usize
     ensures { (result ≤ x) × (result ≤ y) }
 {
-    if x < y { x } else { y }
+    x.min(y)
 }
 
 // The first `size` bytes, or all.
-pub fn first<'a>(bytes: &'a [u8], size: usize) -> &'a [u8] {
-    let end = least(size, bytes.len());
-    &bytes[0..end]
+pub fn first(bytes: &[u8], size: usize) -> &[u8] {
+    &bytes[..size.min(bytes.len())]
 }
 
 // The bytes from `start` on, or none.
-pub fn rest<'a>(bytes: &'a [u8], start: usize) -> &'a [u8] {
-    let from = least(start, bytes.len());
-    &bytes[from..]
+pub fn rest(bytes: &[u8], start: usize) -> &[u8] {
+    &bytes[start.min(bytes.len())..]
 }
 
 // Whether two runs of bytes are the same.
 pub fn same(x: &[u8], y: &[u8]) -> bool {
-    if x.len() != y.len() {
-        return false;
-    }
-    let mut i = 0;
-    'comparing: while i < x.len() {
-        if x[i] != get(y, i) {
-            return false;
-        }
-        i += 1;
-    }
-    true
+    x == y
 }
 
 // Where a byte first stands from `start` on; the end if it does not.
@@ -72,12 +54,8 @@ pub fn find(text: &[u8], start: usize, wanted: u8) -> usize
     requires { start ≤ length text.now }
     ensures { (start ≤ result) × (result ≤ length text.now) }
 {
-    let mut end = start;
-    'bytes: while end < text.len() {
-        if text[end] == wanted {
-            return end;
-        }
-        end += 1;
+    match text[start..].iter().position(|&byte| byte == wanted) {
+        Some(at) => start + at,
+        None => text.len(),
     }
-    end
 }

@@ -9,13 +9,14 @@ pub mod numbers;
 pub mod out;
 pub mod rooms;
 pub mod streams;
+mod words;
 
 // Whether both hold.
 pub fn both(x: bool, y: bool) -> bool {
-    if x { y } else { false }
+    x && y
 }
 
 // Whether one of them holds.
 pub fn either(x: bool, y: bool) -> bool {
-    if x { true } else { y }
+    x || y
 }

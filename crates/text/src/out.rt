@@ -1,8 +1,10 @@
 // Output through a lent buffer, which is written to a stream when it is full and at the end.
-use crate::bytes::least;
-use crate::numbers::{decimal, digit_byte};
+use crate::bytes::first;
+use crate::numbers::digit_byte;
+use crate::rooms;
 use crate::streams::Streams;
-use crate::{both, rooms};
+use crate::words::Words;
+use std::fmt::Write;
 
 // Where output goes, how many bytes wait in the buffer, and whether every write went well.
 #[derive(Clone, Copy)]
@@ -15,7 +17,7 @@ pub struct Out {
 // Output to a descriptor, of which none waits.
 pub fn to(fd: i32) -> Out {
     Out {
-        fd: fd,
+        fd,
         waiting: 0,
         right: true,
     }
@@ -28,20 +30,18 @@ pub fn write_all(rt: &impl Streams, fd: i32, bytes: &[u8]) -> bool {
 
 // The number's decimal digits, written at once; whether that went well.
 pub fn print_decimal(rt: &impl Streams, fd: i32, value: u64) -> bool {
-    let mut digits = [0u8; 20];
-    let count = decimal(value, &mut digits);
-    rt.write_to(fd, &digits[..count])
+    let mut digits = Words::new();
+    let _ = write!(digits, "{value}");
+    rt.write_to(fd, digits.text())
 }
 
 // What waits is written.
 pub fn flush(rt: &impl Streams, buffer: &[u8], out: Out) -> Out {
-    let end = least(out.waiting, buffer.len());
-    let fd = out.fd;
-    let written = rt.write_to(fd, &buffer[0..end]);
+    let written = rt.write_to(out.fd, first(buffer, out.waiting));
     Out {
-        fd: fd,
+        fd: out.fd,
         waiting: 0,
-        right: both(out.right, written),
+        right: out.right && written,
     }
 }
 
@@ -51,15 +51,13 @@ fn put_waiting(buffer: &mut [u8], out: Out, byte: u8) -> Out {
     if at < buffer.len() {
         buffer[at] = byte;
         Out {
-            fd: out.fd,
             waiting: at + 1,
-            right: out.right,
+            ..out
         }
     } else {
         Out {
-            fd: out.fd,
-            waiting: at,
             right: false,
+            ..out
         }
     }
 }
@@ -76,19 +74,17 @@ pub fn put_byte(rt: &impl Streams, buffer: &mut [u8], out: Out, byte: u8) -> Out
 // All bytes of a text.
 pub fn put(rt: &impl Streams, buffer: &mut [u8], out: Out, text: &[u8]) -> Out {
     let mut now = out;
-    let mut i = 0;
-    'bytes: while i < text.len() {
-        now = put_byte(rt, &mut *buffer, now, text[i]);
-        i += 1;
+    for &byte in text {
+        now = put_byte(rt, buffer, now, byte);
     }
     now
 }
 
 // A number in decimal digits.
 pub fn put_number(rt: &impl Streams, buffer: &mut [u8], out: Out, value: usize) -> Out {
-    let mut digits = [0u8; 20];
-    let count = decimal(value as u64, &mut digits);
-    put(rt, buffer, out, &digits[..count])
+    let mut digits = Words::new();
+    let _ = write!(digits, "{value}");
+    put(rt, buffer, out, digits.text())
 }
 
 // ---- sentences with numbers
@@ -110,30 +106,7 @@ pub fn three(x: usize, y: usize, z: usize) -> [usize; 6] {
     [x, y, z, 0, 0, 0]
 }
 
-// A sentence's next number, and 0 past the last.
-fn next_number(numbers: [usize; 6], at: usize) -> usize {
-    if at < 6 { numbers[at] } else { 0 }
-}
-
-// A byte of a sentence, or the number that # stands for.
-fn put_filled_byte(rt: &impl Streams, buffer: &mut [u8], out: Out, byte: u8, number: usize) -> Out {
-    if byte == b'#' {
-        put_number(rt, buffer, out, number)
-    } else {
-        put_byte(rt, buffer, out, byte)
-    }
-}
-
-// How many numbers are put, with this byte.
-fn count_filled(count: usize, byte: u8) -> usize {
-    if byte == b'#' {
-        std::num::wrapping_add_usize(count, 1)
-    } else {
-        count
-    }
-}
-
-// A sentence, each # replaced by the next of its numbers.
+// A sentence, each # replaced by the next of its numbers, and by 0 past the last.
 pub fn put_filled(
     rt: &impl Streams,
     buffer: &mut [u8],
@@ -142,14 +115,13 @@ pub fn put_filled(
     numbers: [usize; 6],
 ) -> Out {
     let mut now = out;
-    let mut count = 0;
-    let mut i = 0;
-    'bytes: while i < sentence.len() {
-        let byte = sentence[i];
-        let number = next_number(numbers, count);
-        now = put_filled_byte(rt, &mut *buffer, now, byte, number);
-        count = count_filled(count, byte);
-        i += 1;
+    let mut numbers = numbers.iter();
+    for &byte in sentence {
+        now = if byte == b'#' {
+            put_number(rt, buffer, now, numbers.next().copied().unwrap_or(0))
+        } else {
+            put_byte(rt, buffer, now, byte)
+        };
     }
     now
 }
@@ -166,17 +138,15 @@ pub fn tell(rt: &impl Streams, fd: i32, sentence: &[u8], numbers: [usize; 6]) ->
 
 // A byte as two hexadecimal digits.
 pub fn put_hex(rt: &impl Streams, buffer: &mut [u8], out: Out, byte: u8) -> Out {
-    let high = put_byte(rt, &mut *buffer, out, digit_byte(byte / 16));
+    let high = put_byte(rt, buffer, out, digit_byte(byte / 16));
     put_byte(rt, buffer, high, digit_byte(byte % 16))
 }
 
 // This many blanks.
 pub fn pad(rt: &impl Streams, buffer: &mut [u8], out: Out, count: usize) -> Out {
     let mut now = out;
-    let mut i = 0;
-    'blanks: while i < count {
-        now = put_byte(rt, &mut *buffer, now, b' ');
-        i += 1;
+    for _ in 0..count {
+        now = put_byte(rt, buffer, now, b' ');
     }
     now
 }
@@ -194,10 +164,8 @@ fn visible(byte: u8) -> u8 {
 // A word, of which every byte can be seen.
 fn put_visible(rt: &impl Streams, buffer: &mut [u8], out: Out, word: &[u8]) -> Out {
     let mut now = out;
-    let mut i = 0;
-    'bytes: while i < word.len() {
-        now = put_byte(rt, &mut *buffer, now, visible(word[i]));
-        i += 1;
+    for &byte in word {
+        now = put_byte(rt, buffer, now, visible(byte));
     }
     now
 }
