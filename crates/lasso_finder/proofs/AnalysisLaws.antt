@@ -1,10 +1,12 @@
 -- The stages one after the other: what each hands on is what the next asks, and the last is the outcome.
 -- Assumes nothing.
 use Prim.Native.Nat.{ℕ, ◌+◌, ◌<◌, ◌≤◌}
-use mathlib.Core.Path.{◌≡◌, refl, sym, ap, ap₂, ◌∙◌, subst}
+use mathlib.Core.Path.{◌≡◌, refl, sym, ap, ◌∙◌, subst}
 use mathlib.Core.List.{List}
-use mathlib.Core.Option.{Option, none, some}
+use mathlib.Core.Option.{Option as Maybe, none, some}
+use Rattle.std.specs.Prelude.{Option, Some, None}
 use native.Mathlib.Omega.{arith}
+use Rattle.std.proofs.lemmas.Option.{none-some, same_Some}
 use lib.ListN.{length}
 use Rattle.memory.specs.Fields.{byte_at}
 use Rattle.memory.specs.Frames.{KeptOutside}
@@ -17,8 +19,7 @@ use Rattle.lasso.specs.ClockEntries.{clock_entries}
 use Rattle.lasso.proofs.PhaseCountLaws.{phases-pos, phases-le}
 use Rattle.ternary_step.specs.StateMap.{ClearedWork}
 use Rattle.lasso_search.specs.SearchStage.{repeat_of, LassoDone}
-use Rattle.lasso_search.specs.declared.Repeat.{Repeat}
-use Rattle.lasso_search.specs.declared.Repeat.TheVariants.{Found as AtState, Never}
+use Rattle.lasso_search.specs.declared.Lasso.{Lasso as FoundLasso}
 use Rattle.period_finder.specs.PeriodStage.{lasso_of, lasso_in, Lassoed, PeriodPart, period_bytes}
 use Rattle.period_finder.proofs.CountLaws.{phases-same}
 use Rattle.clock_words.specs.KnownStage.{KnownPart}
@@ -27,23 +28,21 @@ use Rattle.clock_words.proofs.KnownLaws.{known_is}
 use Rattle.clock_words.proofs.EntryLaws.{known-registers, entries-are, entries-number}
 use Rattle.fold_memory.specs.WorkMap.{value_offset, known_offset, known_in, entries_in}
 use Rattle.lasso_finder.specs.Outcome.{phases_of, analysis_of, Analysed}
-use Rattle.lasso_finder.specs.declared.Analysis.{Analysis}
-use Rattle.lasso_finder.specs.declared.Analysis.TheVariants.{NoLasso, Found}
+use Rattle.lasso_finder.specs.declared.Clocks.{Clocks}
 
 -- What the finder's answer says of the lasso.
-never-none : (o : Option Lasso) → Never ≡ repeat_of o → o ≡ none
+never-none : (o : Maybe Lasso) → None ≡ repeat_of o → o ≡ none
 never-none none e = refl
-never-none (some z) e = absurd (let q : ◌≡◌ {A = ℕ} 0 1 = cc in omega arith)
+never-none (some z) e = absurd (none-some _ e)
 
-found_some : (o : Option Lasso) (stem cycle : ℕ) → AtState stem cycle ≡ repeat_of o → o ≡ some (record { stem = stem; cycle = cycle })
-found_some none stem cycle e = absurd (let q : ◌≡◌ {A = ℕ} 0 1 = cc in omega arith)
-found_some (some z) stem cycle e =
-    let p : z.stem ≡ stem = cc in
-    let q : z.cycle ≡ cycle = cc in
-    ap₂ (λ (s c : ℕ). some (record { stem = s; cycle = c })) p q
+found_some : (o : Maybe Lasso) (y : FoundLasso) → Some y ≡ repeat_of o → o ≡ some (record { stem = y.stem; cycle = y.cycle })
+found_some none y e = absurd (none-some y (sym e))
+found_some (some z) y e =
+    let q : y ≡ record { stem = z.stem; cycle = z.cycle } = same_Some _ _ e in
+    ap (λ (x : FoundLasso). some (record { stem = x.stem; cycle = x.cycle })) (sym q)
 
-module _ {rows : List Row} {w w₁ : List ℕ} {r : Repeat} (L : LassoDone rows w w₁ r) where
-  pub analysed-never : {wish : ℕ} → r ≡ Never → Analysed rows wish w w₁ NoLasso
+module _ {rows : List Row} {w w₁ : List ℕ} {r : Option FoundLasso} (L : LassoDone rows w w₁ r) where
+  pub analysed-never : {wish : ℕ} → r ≡ None → Analysed rows wish w w₁ None
   analysed-never {wish} e =
       let q = never-none (find_lasso rows) (sym e ∙ L.answer) in
       record {
@@ -53,17 +52,17 @@ module _ {rows : List Row} {w w₁ : List ℕ} {r : Repeat} (L : LassoDone rows 
         kept = kept-wider (value_offset 0) (known_offset most_original_rows) L.kept (omega arith) (omega arith);
       }
 
-  module _ {stem cycle : ℕ} (found : r ≡ AtState stem cycle) (ready : ClearedWork w) where
-    lasso-found : find_lasso rows ≡ some (record { stem = stem; cycle = cycle })
-    lasso-found = found_some (find_lasso rows) stem cycle (sym found ∙ L.answer)
+  module _ {y : FoundLasso} (found : r ≡ Some y) (ready : ClearedWork w) where
+    lasso-found : find_lasso rows ≡ some (record { stem = y.stem; cycle = y.cycle })
+    lasso-found = found_some (find_lasso rows) y (sym found ∙ L.answer)
 
-    lasso-in : lasso_in rows ≡ record { stem = stem; cycle = cycle }
+    lasso-in : lasso_in rows ≡ record { stem = y.stem; cycle = y.cycle }
     lasso-in = ap lasso_of lasso-found
 
-    pub stem-is : stem ≡ (lasso_in rows).stem
+    pub stem-is : y.stem ≡ (lasso_in rows).stem
     stem-is = sym (ap (λ (z : Lasso). z.stem) lasso-in)
 
-    pub cycle-is : cycle ≡ (lasso_in rows).cycle
+    pub cycle-is : y.cycle ≡ (lasso_in rows).cycle
     cycle-is = sym (ap (λ (z : Lasso). z.cycle) lasso-in)
 
     is_some : find_lasso rows ≡ some (lasso_in rows)
@@ -111,7 +110,7 @@ module _ {rows : List Row} {w w₁ : List ℕ} {r : Repeat} (L : LassoDone rows 
           used-is : used ≡ used_count (periods_of rows (lasso_in rows)) phases
           used-is = entries-number phases-from phases-to part count E
 
-          pub analysed-found : Analysed rows wish w w₄ (Found (record { stem = stem; cycle = cycle; phases = phases; used = used }))
+          pub analysed-found : Analysed rows wish w w₄ (Some (record { stem = y.stem; cycle = y.cycle; phases = phases; used = used }))
           analysed-found =
               let ps = periods_of rows (lasso_in rows) in
               record {
@@ -125,5 +124,5 @@ module _ {rows : List Row} {w w₁ : List ℕ} {r : Repeat} (L : LassoDone rows 
                 kept = all-kept;
               }
             where
-              same : {s s' c c' p p' u u' : ℕ} → s ≡ s' → c ≡ c' → p ≡ p' → u ≡ u' → ◌≡◌ {A = Analysis} (Found (record { stem = s; cycle = c; phases = p; used = u })) (Found (record { stem = s'; cycle = c'; phases = p'; used = u' }))
+              same : {s s' c c' p p' u u' : ℕ} → s ≡ s' → c ≡ c' → p ≡ p' → u ≡ u' → ◌≡◌ {A = Option Clocks} (Some (record { stem = s; cycle = c; phases = p; used = u })) (Some (record { stem = s'; cycle = c'; phases = p'; used = u' }))
               same a b c d = cc (a, b, c, d)

@@ -18,33 +18,21 @@ pub struct Clocks {
     pub used: usize,
 }
 
-#[derive(Clone, Copy)]
-pub enum Analysis {
-    NoLasso,
-    Found(Clocks),
-}
-
-// Then `work` has what is known of each row in each phase, and the clock entries.
-pub fn analyse(file: &[u8], rows: usize, wish: usize, work: &mut [u8]) -> Analysis
+// Then `work` has what is known of each row in each phase, and the clock entries; none if there is no lasso.
+pub fn analyse(file: &[u8], rows: usize, wish: usize, work: &mut [u8]) -> Option<Clocks>
     requires ready { Ready FoldableRows file.now rows }
     requires wish_le_most_phases { (wish ≤ most_phases) × ClearedWork work.old }
     ensures { Analysed (netlist_of file.now) wish work.old work.new result }
 {
-    let repeat = lasso_search::find_lasso(file, rows, work);
-    match repeat {
-        lasso_search::Repeat::Never => Analysis::NoLasso,
-        lasso_search::Repeat::Found { stem, cycle } => {
-            period_finder::find_periods(file, rows, work, stem, cycle);
-            let phases = period_finder::phase_count(work, rows, wish);
-            clock_words::known::find_known(file, rows, work, phases);
-            let used = clock_words::entries::put_entries(file, rows, work);
-            let clocks = Clocks {
-                stem: stem,
-                cycle: cycle,
-                phases: phases,
-                used: used,
-            };
-            Analysis::Found(clocks)
-        }
-    }
+    let lasso = lasso_search::find_lasso(file, rows, work)?;
+    period_finder::find_periods(file, rows, work, lasso.stem, lasso.cycle);
+    let phases = period_finder::phase_count(work, rows, wish);
+    clock_words::known::find_known(file, rows, work, phases);
+    let used = clock_words::entries::put_entries(file, rows, work);
+    Some(Clocks {
+        stem: lasso.stem,
+        cycle: lasso.cycle,
+        phases,
+        used,
+    })
 }

@@ -25,7 +25,7 @@ use Rattle.ternary_step.specs.StateMap.{ClearedWork, Stored, Started, Searched}
 use Rattle.ternary_step.proofs.StepLaws.{StartKept}
 use Rattle.fold_memory.specs.WorkMap.{value_offset, state_offset}
 use Rattle.lasso_search.specs.SearchStage.{same_word, repeat_of, LassoDone}
-use Rattle.lasso_search.specs.declared.Repeat.TheVariants.{Found, Never}
+use Rattle.std.specs.Prelude.{Some, None}
 use Rattle.lasso_search.proofs.WordLaws.{same-states}
 
 module _ (rows : List Row) where
@@ -100,7 +100,7 @@ module _ {rows : List Row} {n : ℕ} {w w₁ : List ℕ} (ready : ClearedWork w)
     pub advance-room : m ≤ last_state → state_offset (m + 1) ≤ length w₂
     advance-room h = let r = S.room in omega arith
 
-    pub sought-never : last_state < m → LassoDone rows w w₂ Never
+    pub sought-never : last_state < m → LassoDone rows w w₂ None
     sought-never h =
         let t = S.to in
         let e : m ≡ suc last_state = omega arith in
@@ -122,7 +122,7 @@ module _ {rows : List Row} {n : ℕ} {w w₁ : List ℕ} (ready : ClearedWork w)
         kept = kept-join (value_offset 0) (state_offset (suc last_state)) w₁ w₂ w₃ S.kept L (omega arith) (omega arith) (omega arith) (omega arith);
       }
 
-      pub sought-found : (k : ℕ) → k < m → Unlike rows m k → is_repeat rows m k ≡ true → LassoDone rows w w₃ (Found k (m - k))
+      pub sought-found : (k : ℕ) → k < m → Unlike rows m k → is_repeat rows m k ≡ true → LassoDone rows w w₃ (Some (record { stem = k; cycle = m - k }))
       sought-found k l u e =
           let q = lasso-is-some rows m k S.from small l S.no-repeat u e in
           record {
