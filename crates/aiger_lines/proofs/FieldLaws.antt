@@ -1,18 +1,16 @@
 -- A line and a header read field by field.
 -- Assumes nothing.
-use Prim.Native.Nat.{ℕ, suc, ◌≤◌}
+use Prim.Native.Nat.{ℕ, suc}
 use mathlib.Core.Path.{◌≡◌, refl, ◌∙◌, sym}
 use mathlib.Core.Bool.{Bool, true, false, cond}
 use mathlib.Core.List.{List, [], ◌∷◌}
-use mathlib.Core.Option.{Option, none, some}
-use native.Mathlib.Omega.{arith}
+use mathlib.Core.Option.{none, some}
 use lib.Dec.{eqb}
-use lib.ListN.{length, drop}
+use lib.ListN.{drop}
 use Rattle.aiger.specs.AigerReading.{Reading, ◌>>=◌, done, nothing, byte, number, line}
 use Rattle.aiger_lines.specs.declared.Field.{Field}
 use Rattle.aiger_lines.specs.declared.Field.TheVariants as fields
-use Rattle.aiger_lines.specs.declared.Line.{Line}
-use Rattle.aiger_lines.specs.Lines.{field, field_read, FieldInside, line_read, NoLine, Padded}
+use Rattle.aiger_lines.specs.Lines.{field, field_read}
 use Rattle.aiger_lines.proofs.ReadingLaws.{after_none, after-some, after_same, after-after, after-done, byte_of}
 
 -- ---- a line, its numbers handed to f
@@ -55,27 +53,7 @@ module _ {B : Type 0} (f : List ℕ → Reading B) (k : ℕ) where
     pub line-next : (v e : ℕ) → r ≡ fields.Next v e → (line (suc k) >>= f) (drop at text) ≡ (line k >>= λ ns. f (v ∷ ns)) (drop e text)
     line-next v e s = by_field (drop at text) ∙ after-some field (line_on f k) (drop at text) (v, false) (drop e text) (sym (rw s at read))
 
--- ---- where a field ends
-
-pub next-inside : (text : List ℕ) (r : Field) (v e : ℕ) → FieldInside text r → r ≡ fields.Next v e → e ≤ length text
-next-inside text r v e h s = rw s at h
-
-pub last-inside : (text : List ℕ) (r : Field) (v e : ℕ) → FieldInside text r → r ≡ fields.Last v e → e ≤ length text
-last-inside text r v e h s = rw s at h
-
 -- ---- a line of one to three numbers
-
-pub no_line : (text : List ℕ) (x : Line) → NoLine x → (o : Option (List ℕ × List ℕ)) → none ≡ o → line_read text x ≡ o
-no_line text x n o e = rw n.right e
-
-pub no-padded : (text : List ℕ) (x : Line) → NoLine x → Padded text x
-no-padded text x n = record {
-  first = rw (n.count, n.first);
-  second = rw (n.count, n.second);
-  third = rw (n.count, n.third);
-  count = rw n.count;
-  inside = rw n.next (omega arith);
-}
 
 module _ (text : List ℕ) (at : ℕ) (r₁ : Field) (read₁ : field_read text r₁ ≡ field (drop at text)) where
   pub none_first : r₁ ≡ fields.Other → none ≡ line 3 (drop at text)

@@ -1,15 +1,12 @@
 -- A header read field by field: four numbers with a space after each, and a fifth that ends its line.
 -- Assumes nothing.
-use Prim.Native.Nat.{ℕ, suc, ◌≤◌}
+use Prim.Native.Nat.{ℕ, suc}
 use mathlib.Core.Path.{◌≡◌, refl, ◌∙◌, sym}
-use mathlib.Core.Bool.{Bool, false, true, not, false≢true}
+use mathlib.Core.Bool.{Bool, false, true, not}
 use mathlib.Core.List.{List, [], ◌∷◌}
 use mathlib.Core.Option.{none, some}
-use Rattle.memory.proofs.TestLaws.{and-true}
-use lib.Dec.{eqb}
-use native.Mathlib.Omega.{arith}
 use borrow.Author.Tests.{not-true, not-false}
-use lib.ListN.{length, drop}
+use lib.ListN.{drop}
 use Rattle.aiger.specs.AigerText.{Header, opening}
 use Rattle.aiger.specs.AigerReading.{Reading, ◌>>=◌, line, starts_with, header_of, header}
 use Rattle.aiger_lines.specs.declared.Field.{Field}
@@ -35,14 +32,6 @@ module _ (f : List ℕ → Reading Header) (text : List ℕ) (at : ℕ) where
   goes_on (fields.Next v e) read n = sym (line-next f 0 text at (fields.Next v e) read v e refl)
   goes_on (fields.Last v e) read n = absurd (n v e refl)
   goes_on fields.Other read n = sym (line_other f 0 text at fields.Other read refl)
-
-starts-long : (s t : List ℕ) → starts_with s t ≡ true → length s ≤ length t
-starts-long [] t h = omega arith
-starts-long (b ∷ s) [] h = absurd (false≢true h)
-starts-long (b ∷ s) (c ∷ t) h = let l = starts-long s t (and-true (eqb b c) (starts_with s t) h).1 in omega arith
-
-pub opens-long : (text : List ℕ) (b : Bool) → b ≡ starts_with opening text → not b ≡ false → 4 ≤ length text
-opens-long text b o n = starts-long opening text (sym o ∙ not-false b n)
 
 module _ (text : List ℕ) (b : Bool) (o : b ≡ starts_with opening text) where
   pub not_opened : not b ≡ true → none ≡ header text

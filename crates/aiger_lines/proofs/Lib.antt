@@ -1,4 +1,4 @@
--- The laws of the readers: bytes, fields, the header, lines one after another, and what is asked of a line.
+-- The laws of the readers: bytes, fields, the header, and lines one after another.
 pub mod ReadingLaws
 pub mod FieldLaws
 pub mod HeaderLaws

@@ -9,6 +9,8 @@ use native.Mathlib.Omega.{arith}
 use native.Mathlib.Numerals.{add-one}
 use lib.ListN.{length, get_or, take, drop, length-append}
 use lib.Seq.{take-length, take-append-le, get_or-take, get_or_at}
+use Rattle.std.specs.Prelude.{Some, None, IsSome, IfSome}
+use Rattle.std.specs.Prelude as code
 use Rattle.memory.proofs.TestLaws.{last_or}
 use Rattle.aiger.specs.AigerText.{Header, Aiger, line_count, line_at, section_of, line_right, lines_right, is_distinct, is_defined, aiger_right}
 use Rattle.aiger.specs.AigerReading.{line, lines, header, read_lines, read_aiger}
@@ -168,26 +170,34 @@ counted-lines text x from e inside few stand =
     }
 
 -- A line that was read, from its reading.
-read_right : (text : List ℕ) (x : Line) (l r : List ℕ) → line_read text x ≡ some (l, r) → (numbers_in x ≡ l) × (drop x.next text ≡ r)
-read_right text x l r = of x.right
-  where
-    of : (b : Bool) → cond {A = Option (List ℕ × List ℕ)} b (some (numbers_in x, drop x.next text)) none ≡ some (l, r) → (numbers_in x ≡ l) × (drop x.next text ≡ r)
-    of true h = let p = some-injective _ _ h in (ap (λ q. q.0) p, ap (λ q. q.1) p)
-    of false h = absurd (none-ne-some (l, r) h)
+read_right : (text : List ℕ) (x : Line) (l r : List ℕ) → line_read text (Some x) ≡ some (l, r) → (numbers_in x ≡ l) × (drop x.next text ≡ r)
+read_right text x l r h = let p = some-injective _ _ h in (ap (λ q. q.0) p, ap (λ q. q.1) p)
 
-pub next-line : (text : List ℕ) (k at : ℕ) (x : Line) → LineThere text k at → line_read text x ≡ line 3 (drop at text) → Padded text x → LineHere text k x
-next-line text k at x there e pad =
+-- Line k is there to be read.
+line-there : (text : List ℕ) (k at : ℕ) → LineThere text k at → (r : List ℕ) × (line 3 (drop at text) ≡ some (line_at (aiger_in text) k, r)) × (text_after text (suc k) ≡ some r)
+line-there text k at there =
     let s = standing text there.stand in
     let g = s.lined in
     let b = lines-before text k _ g.after (drop at text) g.read-header there.start.rest in
     let m = line_of _ g.after _ s.rest g.read-lines k there.among (b.0, drop at text) b.1 in
-    let r = read_right text x (line_at (aiger_in text) k) m.0 (e ∙ m.1) in
+    (m.0, m.1, after-lines text (suc k) _ g.after _ g.read-header m.2)
+
+pub line-read : (text : List ℕ) (k at : ℕ) → LineThere text k at → (o : code.Option Line) → line_read text o ≡ line 3 (drop at text) → IsSome o
+line-read text k at there (Some x) e = refl
+line-read text k at there None e = absurd (none-ne-some _ (e ∙ (line-there text k at there).1))
+
+pub next-line : (text : List ℕ) (k at : ℕ) (o : code.Option Line) (x : Line) → LineThere text k at → line_read text o ≡ line 3 (drop at text) → o ≡ Some x → IfSome o (Padded text) → LineHere text k x
+next-line text k at o x there e is padded =
+    let m = line-there text k at there in
+    let read : line_read text (Some x) ≡ line 3 (drop at text) = rw is at e in
+    let pad : Padded text x = rw is at padded in
+    let r = read_right text x (line_at (aiger_in text) k) m.0 (read ∙ m.1) in
     record {
       first = pad.first ∙ ap (λ (l : List ℕ). get_or l 0 0) r.0;
       second = pad.second ∙ ap (λ (l : List ℕ). get_or l 1 0) r.0;
       third = pad.third ∙ ap (λ (l : List ℕ). get_or l 2 0) r.0;
       count = pad.count ∙ ap length r.0;
-      next = record { inside = pad.inside; rest = rw (add-one, r.1) (after-lines text (suc k) _ g.after _ g.read-header m.2) };
+      next = record { inside = pad.inside; rest = rw (add-one, r.1) m.2 };
     }
 
 -- ---- what is asked of them

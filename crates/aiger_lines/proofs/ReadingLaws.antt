@@ -7,15 +7,14 @@ use mathlib.Core.List.{List, ◌∷◌}
 use mathlib.Core.Option.{Option, none, some, none-ne-some}
 use native.Mathlib.Omega.{arith}
 use native.Mathlib.Numerals.{add-one}
-use borrow.Author.Tests.{leb-true, le-leb, lt-leb, not-true, not-false, eq-eqb, ne_eqb}
-use lib.Dec.{eqb, leb}
+use borrow.Author.Tests.{le-leb, lt-leb, not-true, not-false, ne_eqb}
+use lib.Dec.{eqb}
 use lib.ListN.{length, drop, get_or, drop_of_length-le}
 use lib.Seq.{drop-cons}
-use Rattle.memory.proofs.TestLaws.{and-true}
 use Rattle.aiger.specs.AigerText.{largest_number}
-use Rattle.aiger.specs.AigerReading.{Reading, ◌>>=◌, done, nothing, byte, is_digit, more_digits, number, starts_with}
-use Rattle.aiger_lines.specs.declared.Number.{Number}
-use Rattle.aiger_lines.specs.declared.Number.TheVariants as numbers
+use Rattle.aiger.specs.AigerReading.{Reading, ◌>>=◌, done, nothing, byte, is_digit, more_digits, number}
+use Rattle.std.specs.Prelude.{Some, None}
+use Rattle.std.specs.Prelude as code
 use Rattle.aiger_lines.specs.Lines.{number_read, field}
 
 -- ---- a reading after another
@@ -63,14 +62,6 @@ after-done {A} m t = of (m t)
     of none = refl
     of (some q) = refl
 
--- ---- bytes
-
-pub digit-least : (b : ℕ) → is_digit b ≡ true → 48 ≤ b
-digit-least b h = leb-true 48 b (and-true (leb 48 b) (leb b 57) h).0
-
-pub is-digit : (x : ℕ) (b : Bool) → b ≡ is_digit x → not b ≡ false → is_digit x ≡ true
-is-digit x b e n = sym e ∙ not-false b n
-
 -- ---- digits: the number so far is `value`, and they go on at i
 
 module _ (text : List ℕ) (first at value i : ℕ) (so_far : more_digits first (drop at text) ≡ more_digits value (drop i text)) where
@@ -90,30 +81,12 @@ module _ (text : List ℕ) (first at value i : ℕ) (so_far : more_digits first 
   unfolding more_digits
   digits_more h b e n longer w l = so_far ∙ rw (drop-cons text i 0 h, sym e ∙ not-false b n, le-leb (10 * value + (get_or text i 0 - 48)) largest_number (omega arith), add-one, w) refl
 
--- ---- an opening: the bytes before i are the same
-
-module _ (text start : List ℕ) (i : ℕ) (so_far : starts_with start text ≡ starts_with (drop i start) (drop i text)) where
-  pub opening-short : i < length start → length text ≤ i → false ≡ starts_with start text
-  opening-short h l = sym (so_far ∙ rw (drop-cons start i 0 h, drop_of_length-le text l) refl)
-
-  pub opening-other : i < length start → i < length text → (get_or text i 0 ≡ get_or start i 0 → ⊥) → false ≡ starts_with start text
-  opening-other h l n = sym (so_far ∙ rw (drop-cons start i 0 h, drop-cons text i 0 l, ne_eqb (get_or start i 0) (get_or text i 0) (λ e. n (sym e))) refl)
-
-  pub opening-more : i < length start → i < length text → get_or text i 0 ≡ get_or start i 0 → starts_with start text ≡ starts_with (drop (i + 1) start) (drop (i + 1) text)
-  opening-more h l e = so_far ∙ rw (drop-cons start i 0 h, drop-cons text i 0 l, eq-eqb (get_or start i 0) (get_or text i 0) (sym e), add-one) refl
-
-  pub opening-end : length start ≤ i → true ≡ starts_with start text
-  opening-end h = sym (so_far ∙ rw (drop_of_length-le start h) refl)
-
 -- ---- a number
 
 module _ (text : List ℕ) (at : ℕ) where
   pub number_short : at ≡ length text → none ≡ number (drop at text)
   unfolding number
   number_short e = rw (drop_of_length-le text {i = at} (omega arith)) refl
-
-  pub byte-is-digit : (b : Bool) → b ≡ is_digit (get_or text at 0) → not b ≡ false → 48 ≤ get_or text at 0
-  byte-is-digit b e t = digit-least (get_or text at 0) (is-digit (get_or text at 0) b e t)
 
   module _ (inside : at ≤ length text) (more : at ≡ length text → ⊥) where
     begins : drop at text ≡ get_or text at 0 ∷ drop (at + 1) text
@@ -138,11 +111,11 @@ module _ (text : List ℕ) (at : ℕ) where
 abbrev pub byte_of : ℕ → Reading (ℕ × Bool)
 byte_of n = byte >>= λ b. cond (eqb b 10) (done (n, true)) (cond (eqb b 32) (done (n, false)) nothing)
 
-module _ (text : List ℕ) (at : ℕ) (r : Number) (read : number_read text r ≡ number (drop at text)) where
-  pub field-none : r ≡ numbers.Other → none ≡ field (drop at text)
+module _ (text : List ℕ) (at : ℕ) (r : code.Option (ℕ × ℕ)) (read : number_read text r ≡ number (drop at text)) where
+  pub field-none : r ≡ None → none ≡ field (drop at text)
   field-none s = sym (after_none number byte_of (drop at text) (sym (rw s at read)))
 
-  module _ (v e : ℕ) (s : r ≡ numbers.Is v e) where
+  module _ (v e : ℕ) (s : r ≡ Some (v, e)) where
     given : field (drop at text) ≡ byte_of v (drop e text)
     given = after-some number byte_of (drop at text) v (drop e text) (sym (rw s at read))
 

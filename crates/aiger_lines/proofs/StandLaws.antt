@@ -2,7 +2,7 @@
 -- Assumes nothing.
 use Prim.Native.Nat.{ℕ, ◌+◌, ◌<◌, ◌≤◌}
 use mathlib.Core.Path.{◌≡◌, refl, sym, ap, ◌∙◌}
-use mathlib.Core.Bool.{Bool, true, false, not, cond, ◌&&◌}
+use mathlib.Core.Bool.{Bool, true, false, not, ◌&&◌}
 use mathlib.Core.List.{List, [], ◌∷◌, ◌++◌}
 use mathlib.Core.Option.{Option, none, some, some-injective, none-ne-some}
 use native.Mathlib.Omega.{arith}
@@ -11,6 +11,8 @@ use lib.ListN.{length, get_or, drop, get_or-append}
 use lib.Seq.{get_or_at}
 use lib.Dec.{ltb}
 use borrow.Author.Tests.{not-true, not-false, lt-ltb}
+use Rattle.std.specs.Prelude.{Some, None, IfSome}
+use Rattle.std.specs.Prelude as code
 use Rattle.memory.proofs.TestLaws.{last_or}
 use Rattle.memory.proofs.ListLaws.{all_below-of, all_below-no}
 use Rattle.aiger.specs.AigerText.{Header, Aiger, Section, line_count, section_of, line_right, lines_right}
@@ -34,21 +36,19 @@ read-start text x from h = record { inside = h; numbers = []; read = refl; right
 
 -- ---- one more line
 
-read_is : (text : List ℕ) (l : Line) (b : Bool) → l.right ≡ b → line_read text l ≡ cond b (some (numbers_in l, drop l.next text)) none
-read_is text l b e = rw e
-
 pub read_more :
-    (text : List ℕ) (x : h.Header) (from k at : ℕ) (l : Line) (section : s.Section) (b : Bool)
+    (text : List ℕ) (x : h.Header) (from k at : ℕ) (o : code.Option Line) (l : Line) (section : s.Section) (b : Bool)
     → ReadTo text x from k at
-    → line_read text l ≡ line 3 (drop at text)
-    → Padded text l
-    → not l.right ≡ false
+    → line_read text o ≡ line 3 (drop at text)
+    → o ≡ Some l
+    → IfSome o (Padded text)
     → section_in section ≡ section_of (header_in x) k
     → b ≡ line_right (header_in x) (section_in section) (numbers_in l)
     → not b ≡ false
     → ReadTo text x from (k + 1) l.next
-read_more text x from k at l section b r e pad there s q t =
-    let here : line 3 (drop at text) ≡ some (numbers_in l, drop l.next text) = sym e ∙ read_is text l true (not-false l.right there) in
+read_more text x from k at o l section b r e is padded s q t =
+    let pad : Padded text l = rw is at padded in
+    let here : line 3 (drop at text) ≡ some (numbers_in l, drop l.next text) = sym e ∙ ap (line_read text) is in
     let long = lines_long k (drop from text) r.numbers (drop at text) r.read in
     let so : line_right (header_in x) (section_of (header_in x) k) (numbers_in l) ≡ true = ap (λ (z : Section). line_right (header_in x) z (numbers_in l)) (sym s) ∙ sym q ∙ not-false b t in
     record {
@@ -92,22 +92,22 @@ module _ (text : List ℕ) (x : h.Header) (from : ℕ) (head : header text ≡ s
   no-outputs z = unless (λ a r e ls. rw (e, z))
 
   module _ (n : ℕ) (count : n ≡ line_count (header_in x)) (k at : ℕ) (to : ReadTo text x from k at) where
-    module _ (among : k < n) (l : Line) (read : line_read text l ≡ line 3 (drop at text)) where
+    module _ (among : k < n) (o : code.Option Line) (read : line_read text o ≡ line 3 (drop at text)) where
       -- Line k of what is read.
-      line-here : (a : Aiger) (r : List ℕ) → lines (line_count (header_in x)) (drop from text) ≡ some (a.lines, r) → (q : List ℕ) × (line_read text l ≡ some (get_or a.lines k [], q))
+      line-here : (a : Aiger) (r : List ℕ) → lines (line_count (header_in x)) (drop from text) ≡ some (a.lines, r) → (q : List ℕ) × (line_read text o ≡ some (get_or a.lines k [], q))
       line-here a r ls =
           let m = line_of (line_count (header_in x)) (drop from text) a.lines r ls k (omega arith) (to.numbers, drop at text) to.read in
           (m.0, read ∙ m.1)
 
-      pub not-read : not l.right ≡ true → false ≡ lines_stand text
-      not-read t = unless (λ a r e ls. let m = line-here a r ls in absurd (none-ne-some _ (sym (read_is text l false (not-true l.right t)) ∙ m.1)))
+      pub not-read : o ≡ None → false ≡ lines_stand text
+      not-read t = unless (λ a r e ls. let m = line-here a r ls in absurd (none-ne-some _ (sym (ap (line_read text) t) ∙ m.1)))
 
-      pub not_right : (section : s.Section) (b : Bool) → not l.right ≡ false → section_in section ≡ section_of (header_in x) k → b ≡ line_right (header_in x) (section_in section) (numbers_in l) → not b ≡ true → false ≡ lines_stand text
-      not_right section b there s q t = unless (λ a r e ls. wrong a e (line-here a r ls))
+      pub not_right : (l : Line) (section : s.Section) (b : Bool) → o ≡ Some l → section_in section ≡ section_of (header_in x) k → b ≡ line_right (header_in x) (section_in section) (numbers_in l) → not b ≡ true → false ≡ lines_stand text
+      not_right l section b is s q t = unless (λ a r e ls. wrong a e (line-here a r ls))
         where
-          wrong : (a : Aiger) → a.header ≡ header_in x → (q : List ℕ) × (line_read text l ≡ some (get_or a.lines k [], q)) → lines_right a ≡ false
+          wrong : (a : Aiger) → a.header ≡ header_in x → (q : List ℕ) × (line_read text o ≡ some (get_or a.lines k [], q)) → lines_right a ≡ false
           wrong a e m =
-              let ns : numbers_in l ≡ get_or a.lines k [] = ap (λ z. z.0) (some-injective _ _ (sym (read_is text l true (not-false l.right there)) ∙ m.1)) in
+              let ns : numbers_in l ≡ get_or a.lines k [] = ap (λ z. z.0) (some-injective _ _ (sym (ap (line_read text) is) ∙ m.1)) in
               line-wrong a k (rw (e, ← count) among) (rw (e, ← ns, ← s, ← q) (not-true b t))
 
     pub all_read : n ≤ k → k ≤ n → (x.outputs ≡ 0 → ⊥) → true ≡ lines_stand text

@@ -1,18 +1,15 @@
 -- The readers' answers as readings of the text, what its counted lines say, right or not, and where each line begins.
 -- Interface: header_in, section_in, numbers_in, line_read, headed_read, FewHeader, aiger_in, lines_stand, LineStart, LineThere, LineHere, Counted.
 -- Assumes nothing.
-use Rattle.std.specs.Prelude.{ℕ, ◌+◌, ◌<◌, ◌≤◌, ◌≡◌, Bool, true, false, cond, List, [], ◌∷◌, length, get_or, take, drop, eqb}
+use Rattle.std.specs.Prelude.{ℕ, ◌+◌, ◌<◌, ◌≤◌, ◌≡◌, Bool, true, false, cond, List, [], ◌∷◌, length, get_or, take, drop, eqb, Some, None}
+use Rattle.std.specs.Prelude as code
 use Rattle.std.proofs.Math.Option.{Option, none, some}
 use Rattle.aiger.specs.AigerText.{Header, Aiger, Section, input_line, latch_line, output_line, gate_line, line_count, line_at, number_at, lines_right, largest_number}
 use Rattle.aiger.specs.AigerReading.{Reading, ◌>>=◌, done, nothing, byte, number, lines, header, read_lines}
-use Rattle.aiger_lines.specs.declared.Number.{Number}
-use Rattle.aiger_lines.specs.declared.Number.TheVariants as numbers
 use Rattle.aiger_lines.specs.declared.Field.{Field}
 use Rattle.aiger_lines.specs.declared.Field.TheVariants as fields
 use Rattle.aiger_lines.specs.declared.Line as l
 use Rattle.aiger_lines.specs.declared.Header as h
-use Rattle.aiger_lines.specs.declared.Headed.{Headed}
-use Rattle.aiger_lines.specs.declared.Headed.TheVariants as headings
 use Rattle.aiger_lines.specs.declared.Section as s
 use Rattle.aiger_lines.specs.declared.Section.TheVariants.{Input, Latch, Output, Gate}
 
@@ -26,14 +23,14 @@ section_in Output = output_line
 section_in Gate = gate_line
 
 -- The number, and the text after it.
-abbrev pub number_read : List ℕ → Number → Option (ℕ × List ℕ)
-number_read text (numbers.Is value at) = some (value, drop at text)
-number_read text numbers.Other = none
+abbrev pub number_read : List ℕ → code.Option (ℕ × ℕ) → Option (ℕ × List ℕ)
+number_read text (Some n) = some (n.0, drop n.1 text)
+number_read text None = none
 
 -- It ends in the text, or where that ends.
-abbrev pub NumberInside : List ℕ → Number → Type 0
-NumberInside text (numbers.Is value at) = at ≤ length text
-NumberInside text numbers.Other = Unit {0}
+abbrev pub NumberInside : List ℕ → code.Option (ℕ × ℕ) → Type 0
+NumberInside text (Some n) = n.1 ≤ length text
+NumberInside text None = Unit {0}
 
 -- A number, and whether it is its line's last.
 abbrev pub field : Reading (ℕ × Bool)
@@ -53,8 +50,9 @@ FieldInside text fields.Other = Unit {0}
 abbrev pub numbers_in : l.Line → List ℕ
 numbers_in x = take x.count (x.first ∷ x.second ∷ x.third ∷ [])
 
-abbrev pub line_read : List ℕ → l.Line → Option (List ℕ × List ℕ)
-line_read text x = cond x.right (some (numbers_in x, drop x.next text)) none
+abbrev pub line_read : List ℕ → code.Option l.Line → Option (List ℕ × List ℕ)
+line_read text (Some x) = some (numbers_in x, drop x.next text)
+line_read text None = none
 
 -- The numbers that a line has not are 0, and the next line begins in the text, or where it ends.
 pub record Padded (text : List ℕ) (x : l.Line) : Type 0 where
@@ -64,18 +62,10 @@ pub record Padded (text : List ℕ) (x : l.Line) : Type 0 where
   pub count : x.count ≡ length (numbers_in x)
   pub inside : x.next ≤ length text
 
--- Other text stands there.
-pub record NoLine (x : l.Line) : Type 0 where
-  pub right : x.right ≡ false
-  pub count : x.count ≡ 0
-  pub first : x.first ≡ 0
-  pub second : x.second ≡ 0
-  pub third : x.third ≡ 0
-  pub next : x.next ≡ 0
-
-abbrev pub headed_read : List ℕ → Headed → Option (Header × List ℕ)
-headed_read text (headings.Is x at) = some (header_in x, drop at text)
-headed_read text headings.Other = none
+-- The header, and the text after it.
+abbrev pub headed_read : List ℕ → code.Option (h.Header × ℕ) → Option (Header × List ℕ)
+headed_read text (Some x) = some (header_in x.0, drop x.1 text)
+headed_read text None = none
 
 -- No number of the header is above the largest: so sums of them fit a number of 64 bits.
 pub record FewHeader (x : h.Header) : Type 0 where
@@ -86,9 +76,9 @@ pub record FewHeader (x : h.Header) : Type 0 where
   pub gates : x.gates ≤ largest_number
 
 -- The same of a header that was read, whose lines begin in the text, or where it ends.
-abbrev pub FewHeaded : List ℕ → Headed → Type 0
-FewHeaded text (headings.Is x at) = FewHeader x × (at ≤ length text)
-FewHeaded text headings.Other = Unit {0}
+abbrev pub FewHeaded : List ℕ → code.Option (h.Header × ℕ) → Type 0
+FewHeaded text (Some x) = FewHeader x.0 × (x.1 ≤ length text)
+FewHeaded text None = Unit {0}
 
 -- ---- the counted lines
 

@@ -1,33 +1,25 @@
 // An AIGER text read: its numbers, its lines, its header, and whether each line that the header counts is right by itself.
 #![tactic(auto)]
 
-ghost use Rattle.std.specs.Prelude.{◌≡◌, true, false, ◌&&◌, ◌||◌, ◌+◌, ◌-◌, ◌*◌, ◌<◌, ◌≤◌, length, drop};
+ghost use Rattle.std.specs.Prelude.{◌≡◌, true, ◌+◌, ◌-◌, ◌*◌, ◌<◌, ◌≤◌, length, drop, IfSome};
 ghost use Rattle.std.proofs.Math.Option.{some};
 ghost use Rattle.aiger.specs.AigerText.{line_count, section_of, definition_right, line_right, opening};
 ghost use Rattle.aiger.specs.AigerReading.{is_digit, more_digits, number, line, starts_with, header};
-ghost use Rattle.aiger_lines.specs.Lines.{header_in, section_in, number_read, NumberInside, field, field_read, FieldInside, numbers_in, line_read, headed_read, lines_stand, NoLine, Padded, FewHeader, FewHeaded};
+ghost use Rattle.aiger_lines.specs.Lines.{header_in, section_in, number_read, NumberInside, field, field_read, FieldInside, numbers_in, line_read, headed_read, lines_stand, Padded, FewHeader, FewHeaded};
 
 const LARGEST: u64 = 4294967295;
 
-// A number and where it ends, or other text.
+// A number with the byte after it, a space or the line feed that ends a line, and where the text goes on; or other text.
 #[derive(Clone, Copy)]
-pub enum Number {
-    Is(u32, usize),
-    Other,
-}
-
-// The same, with the byte after it: a space, or the line feed that ends a line.
-#[derive(Clone, Copy)]
-pub enum Field {
+enum Field {
     Next(u32, usize),
     Last(u32, usize),
     Other,
 }
 
-// A line: how many numbers it has, these, 0 for one that it has not, and where the next line begins. It is not right if other text stands there.
+// A line: how many numbers it has, these, 0 for one that it has not, and where the next line begins.
 #[derive(Clone, Copy)]
 pub struct Line {
-    pub right: bool,
     pub count: usize,
     pub first: u32,
     pub second: u32,
@@ -45,13 +37,6 @@ pub struct Header {
     pub gates: usize,
 }
 
-// The header and where the first line begins, or other text.
-#[derive(Clone, Copy)]
-pub enum Headed {
-    Is(Header, usize),
-    Other,
-}
-
 // What a line is for.
 #[derive(Clone, Copy)]
 pub enum Section {
@@ -61,80 +46,55 @@ pub enum Section {
     Gate,
 }
 
-fn both(x: bool, y: bool) -> bool
-    ensures { result ≡ x && y }
-{
-    if x { y } else { false }
-}
-
-fn either(x: bool, y: bool) -> bool
-    ensures { result ≡ x || y }
-{
-    if x { true } else { y }
-}
-
-fn is_digit(byte: u8) -> bool
-    ensures { result ≡ is_digit byte }
-{
-    both(48 <= byte, byte <= 57)
-}
-
-fn wide(x: u8) -> u32
-    ensures { result ≡ x }
-{
-    x as u32
-}
-
 // The number with one digit more.
 fn with_digit(value: u32, byte: u8) -> u64
     requires { is_digit byte ≡ true }
     ensures { result ≡ 10 * value + (byte - 48) }
 {
-    let digit = byte - 48;
-    10 * value as u64 + digit as u64
+    let digit = byte - b'0';
+    10 * u64::from(value) + u64::from(digit)
 }
 
-// The digits go on from `at`, `first` the number so far.
-fn more_digits(text: &[u8], at: usize, first: u32) -> Number
+// The number whose digits go on from `at`, `first` so far, and where it ends.
+fn more_digits(text: &[u8], at: usize, first: u32) -> Option<(u32, usize)>
     requires { at ≤ length text.now }
     ensures result_value { number_read text.now result ≡ more_digits first (drop at text.now) }
     ensures number_inside { NumberInside text.now result }
 {
     let mut value = first;
-    let mut i = at;
-    'digits: while i < text.len() {
+    for i in at..text.len() {
         let byte = text[i];
-        if !is_digit(byte) {
-            return Number::Is(value, i);
+        if !byte.is_ascii_digit() {
+            return Some((value, i));
         }
         let longer = with_digit(value, byte);
         if LARGEST < longer {
-            return Number::Other;
+            return None;
         }
         value = longer as u32;
-        i += 1;
     }
-    Number::Is(value, i)
+    Some((value, text.len()))
 }
 
-fn read_number(text: &[u8], at: usize) -> Number
+// A number and where it ends.
+fn read_number(text: &[u8], at: usize) -> Option<(u32, usize)>
     requires { at ≤ length text.now }
     ensures result_value { number_read text.now result ≡ number (drop at text.now) }
     ensures number_inside { NumberInside text.now result }
 {
     if at == text.len() {
-        return Number::Other;
+        return None;
     }
     let byte = text[at];
     let after = at + 1;
-    if byte == 48 {
-        return Number::Is(0, after);
+    if byte == b'0' {
+        return Some((0, after));
     }
-    if !is_digit(byte) {
-        return Number::Other;
+    if !byte.is_ascii_digit() {
+        return None;
     }
-    let digit = byte - 48;
-    more_digits(text, after, wide(digit))
+    let digit = byte - b'0';
+    more_digits(text, after, u32::from(digit))
 }
 
 fn read_field(text: &[u8], at: usize) -> Field
@@ -142,125 +102,91 @@ fn read_field(text: &[u8], at: usize) -> Field
     ensures result_value { field_read text.now result ≡ field (drop at text.now) }
     ensures field_inside { FieldInside text.now result }
 {
-    match read_number(text, at) {
-        Number::Other => Field::Other,
-        Number::Is(value, end) => {
-            if text.len() <= end {
-                return Field::Other;
-            }
-            let byte = text[end];
-            let after = end + 1;
-            if byte == 10 {
-                Field::Last(value, after)
-            } else if byte == 32 {
-                Field::Next(value, after)
-            } else {
-                Field::Other
-            }
-        }
+    let Some((value, end)) = read_number(text, at) else {
+        return Field::Other;
+    };
+    if text.len() <= end {
+        return Field::Other;
     }
-}
-
-fn other_line() -> Line
-    ensures { NoLine result }
-{
-    Line {
-        right: false,
-        count: 0,
-        first: 0,
-        second: 0,
-        third: 0,
-        next: 0,
+    let byte = text[end];
+    let after = end + 1;
+    if byte == b'\n' {
+        Field::Last(value, after)
+    } else if byte == b' ' {
+        Field::Next(value, after)
+    } else {
+        Field::Other
     }
 }
 
 // A line of one to three numbers.
-pub fn read_line(text: &[u8], at: usize) -> Line
+pub fn read_line(text: &[u8], at: usize) -> Option<Line>
     requires { at ≤ length text.now }
     ensures result_value { line_read text.now result ≡ line 3 (drop at text.now) }
-    ensures padded { Padded text.now result }
+    ensures padded { IfSome result (Padded text.now) }
 {
     match read_field(text, at) {
-        Field::Other => other_line(),
-        Field::Last(first, next) => Line {
-            right: true,
+        Field::Other => None,
+        Field::Last(first, next) => Some(Line {
             count: 1,
-            first: first,
+            first,
             second: 0,
             third: 0,
-            next: next,
-        },
+            next,
+        }),
         Field::Next(first, after) => match read_field(text, after) {
-            Field::Other => other_line(),
-            Field::Last(second, next) => Line {
-                right: true,
+            Field::Other => None,
+            Field::Last(second, next) => Some(Line {
                 count: 2,
-                first: first,
-                second: second,
+                first,
+                second,
                 third: 0,
-                next: next,
-            },
+                next,
+            }),
             Field::Next(second, later) => match read_field(text, later) {
-                Field::Last(third, next) => Line {
-                    right: true,
+                Field::Last(third, next) => Some(Line {
                     count: 3,
-                    first: first,
-                    second: second,
-                    third: third,
-                    next: next,
-                },
-                Field::Next(_, _) => other_line(),
-                Field::Other => other_line(),
+                    first,
+                    second,
+                    third,
+                    next,
+                }),
+                Field::Next(_, _) => None,
+                Field::Other => None,
             },
         },
     }
-}
-
-// Whether the text begins with these bytes.
-fn starts_with(text: &[u8], start: &[u8]) -> bool
-    ensures { result ≡ starts_with start.now text.now }
-{
-    let mut i = 0;
-    'bytes: while i < start.len() {
-        if text.len() <= i {
-            return false;
-        }
-        if text[i] != start[i] {
-            return false;
-        }
-        i += 1;
-    }
-    true
 }
 
 // Whether the text opens as an AIGER text does: asked before any number.
 pub fn opens(text: &[u8]) -> bool
     ensures { result ≡ starts_with opening text.now }
 {
-    starts_with(text, b"aag ")
+    text.starts_with(b"aag ")
 }
 
-pub fn read_header(text: &[u8]) -> Headed
+// The header and where the first line begins.
+pub fn read_header(text: &[u8]) -> Option<(Header, usize)>
     ensures result_value { headed_read text.now result ≡ header text.now }
     ensures few_headed { FewHeaded text.now result }
 {
     if !opens(text) {
-        return Headed::Other;
+        return None;
     }
     let Field::Next(maximum, a) = read_field(text, 4) else {
-        return Headed::Other;
+        return None;
     };
     let Field::Next(inputs, b) = read_field(text, a) else {
-        return Headed::Other;
+        return None;
     };
     let Field::Next(latches, c) = read_field(text, b) else {
-        return Headed::Other;
+        return None;
     };
     let Field::Next(outputs, d) = read_field(text, c) else {
-        return Headed::Other;
+        return None;
     };
     let Field::Last(gates, e) = read_field(text, d) else {
-        return Headed::Other;
+        return None;
     };
     let h = Header {
         maximum: maximum as usize,
@@ -269,7 +195,7 @@ pub fn read_header(text: &[u8]) -> Headed
         outputs: outputs as usize,
         gates: gates as usize,
     };
-    Headed::Is(h, e)
+    Some((h, e))
 }
 
 // How many lines the header counts.
@@ -298,10 +224,7 @@ pub fn section_of(h: Header, k: usize) -> Section
 fn definition_right(h: Header, literal: u32) -> bool
     ensures { result ≡ definition_right (header_in h) literal }
 {
-    both(
-        literal % 2 == 0,
-        both(2 <= literal, literal as usize / 2 <= h.maximum),
-    )
+    literal % 2 == 0 && 2 <= literal && literal as usize / 2 <= h.maximum
 }
 
 // Whether the line is right by itself.
@@ -310,14 +233,14 @@ pub fn line_right(h: Header, section: Section, l: Line) -> bool
     ensures { result ≡ line_right (header_in h) (section_in section) (numbers_in l) }
 {
     match section {
-        Section::Input => both(l.count == 1, definition_right(h, l.first)),
+        Section::Input => l.count == 1 && definition_right(h, l.first),
         Section::Latch => {
-            let reset = either(l.third <= 1, l.third == l.first);
-            let counted = either(l.count == 2, both(l.count == 3, reset));
-            both(counted, definition_right(h, l.first))
+            let reset = l.third <= 1 || l.third == l.first;
+            let counted = l.count == 2 || l.count == 3 && reset;
+            counted && definition_right(h, l.first)
         }
         Section::Output => l.count == 1,
-        Section::Gate => both(l.count == 3, definition_right(h, l.first)),
+        Section::Gate => l.count == 3 && definition_right(h, l.first),
     }
 }
 
@@ -330,20 +253,15 @@ pub fn lines_right(text: &[u8], h: Header, from: usize) -> bool
     if h.outputs == 0 {
         return false;
     }
-    let lines = line_count(h);
-    let mut k = 0;
     let mut at = from;
-    'lines: while k < lines {
-        let l = read_line(text, at);
-        if !l.right {
+    for k in 0..line_count(h) {
+        let Some(l) = read_line(text, at) else {
             return false;
-        }
-        let section = section_of(h, k);
-        if !line_right(h, section, l) {
+        };
+        if !line_right(h, section_of(h, k), l) {
             return false;
         }
         at = l.next;
-        k += 1;
     }
     true
 }

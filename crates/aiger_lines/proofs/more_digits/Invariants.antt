@@ -1,13 +1,9 @@
--- `more_digits` meets its contract. The invariant: reading on from `i` with `value` is reading on from the start. The measure is the bytes left.
+-- `more_digits` meets its contract. The invariant: reading on from `i` with `value` is reading on from the start.
 -- Assumes nothing.
-use Prim.Native.Nat.{◌-◌, ◌≤◌}
 use mathlib.Core.Path.{◌≡◌}
-use lib.ListN.{length, drop}
+use lib.ListN.{drop}
 use Rattle.aiger.specs.AigerReading.{more_digits}
 use Rattle.aiger_lines.proofs.more_digits.Given as goal
 
-abbrev pub invariant-digits : goal.invariant-digits
-invariant-digits l = (l.i ≤ length l.text) × (more_digits l.first (drop l.at l.text) ≡ more_digits l.value (drop l.i l.text))
-
-abbrev pub decreases-digits : goal.decreases-digits
-decreases-digits l = length l.text - l.i
+abbrev pub invariant-loop-i : goal.invariant-loop-i
+invariant-loop-i l = more_digits l.first (drop l.at l.text) ≡ more_digits l.value (drop l.i l.text)

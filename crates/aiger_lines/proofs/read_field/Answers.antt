@@ -7,8 +7,8 @@ use Rattle.aiger_lines.proofs.read_field.Goals as goal
 pub returns-then-text-end : goal.returns-then-text-end
 returns-then-text-end c = search (field_end, rules)
 
-pub returns-in-Other : goal.returns-in-Other
-returns-in-Other c = search (field-none, rules)
+pub returns-in_default : goal.returns-in_default
+returns-in_default c = search (field-none, rules)
 
 pub returns-then-byte-eq10 : goal.returns-then-byte-eq10
 returns-then-byte-eq10 c = search (field-last, rules)
