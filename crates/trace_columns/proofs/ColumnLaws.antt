@@ -1,8 +1,7 @@
 -- Columns set row by row.
 -- Assumes nothing.
-use Prim.Native.Nat.{ℕ, suc, ◌+◌, ◌-◌, ◌*◌, ◌<◌, ◌≤◌, ◌/◌, ◌%◌, ◌^◌}
+use Prim.Native.Nat.{ℕ, suc, ◌+◌, ◌*◌, ◌<◌, ◌≤◌, ◌/◌, ◌%◌, ◌^◌}
 use mathlib.Core.Path.{◌≡◌, refl, sym, ap, ◌∙◌, subst}
-use mathlib.Core.Logic.{◌≢◌}
 use mathlib.Core.Bool.{Bool, true, false, not, ◌&&◌, false≢true}
 use mathlib.Core.List.{List}
 use native.Mathlib.Omega.{arith}
@@ -11,12 +10,10 @@ use native.Mathlib.Nat.{zero-add, mul-le-mul_right, suc-mul}
 use native.Mathlib.Numerals.{add-one}
 use lib.Arith.{digits_div, digits_mod}
 use lib.ListN.{length, replicate}
-use lib.Seq.{length-sets}
 use lib.Dec.{eqb}
-use borrow.Author.Tests.{eqb-true, eq-eqb, lt-ltb, le-ltb}
+use borrow.Author.Tests.{not-false, eqb-true, eq-eqb, lt-ltb, le-ltb}
 use Rattle.memory.specs.Lists.{first_from}
-use Rattle.memory.specs.Fields.{u16_bytes}
-use Rattle.memory.specs.Slots.{slot_at, set_slot}
+use Rattle.memory.specs.Slots.{slot_at}
 use Rattle.memory.proofs.TestLaws.{and-true, fails, last_or}
 use Rattle.memory.proofs.ListLaws.{first-is, first_found, first-none, count_next, count-some-le}
 use Rattle.memory.proofs.SlotLaws.{slot_same, slot-other, slots-cleared}
@@ -25,57 +22,28 @@ use Rattle.netlist.specs.FileFormat.{read_fields, netlist_of}
 use Rattle.netlist.specs.RunLayout.{place_among}
 use Rattle.blockfile.specs.Ready.{HasRows}
 use Rattle.trace_columns.specs.declared.Name.{Name}
-use Rattle.trace_columns.specs.Columns.{wanted_row, NameIs, HasLabel, is_called, column_of, ColumnsOf, RowThere, RowMapped, MapReady}
-use Rattle.trace_columns.proofs.NameLaws.{skipped, taken}
+use Rattle.trace_columns.specs.Columns.{wanted_row, NameIs, is_called, column_of, ColumnsOf, RowThere, RowMapped, MapReady}
 
 -- ---- one row
 
-module _ (r : Row) (u : Bool) (name : Name) (N : NameIs r u name) (phases : ℕ) (labels : List ℕ) (count : ℕ) (columns : List ℕ) where
-  pub row-skipped : (c : ℕ) → not name.wanted ≡ true → RowMapped r u labels count columns columns c c
-  row-skipped c h = record {
-    counted = rw (skipped r u name N h) (omega arith);
-    put = λ e. absurd (false≢true (sym (skipped r u name N h) ∙ e));
-    kept = λ _. refl;
-    long = refl;
-  }
+slot-below : (phases count p x : ℕ) → p < phases → x < count → p * count + x < phases * count
+slot-below phases count p x l b = let m : suc p ≤ phases = omega arith in omega (arith, mul-le-mul_right count m, suc-mul p count)
 
-  module _ (R : RowThere r u phases labels count columns) (h : not name.wanted ≡ false) where
-    pub label-there : HasLabel labels count name.label
-    label-there = let t = taken r u name N h in subst (HasLabel labels count) (sym (N.label t)) (R.there t)
-
-    phase-below : name.phase * count + count ≤ phases * count
-    phase-below =
-        let t = taken r u name N h in
-        let l : suc name.phase ≤ phases = omega (arith, N.phase t, R.phased t) in
-        omega (arith, mul-le-mul_right count l, suc-mul name.phase count)
-
-    pub phase-small : name.phase * count < 2 ^ 64
-    phase-small = omega (arith, phase-below, R.few)
-
-    module _ (x : ℕ) (b : x < count) where
-      pub slot_small : name.phase * count + x < 2 ^ 64
-      slot_small = omega (arith, phase-below, R.few)
-
-      pub slot-inside : 2 * (name.phase * count + x) + 2 ≤ length columns
-      slot-inside = omega (arith, phase-below, R.columns-fit)
-
-      pub row_put : (c : ℕ) → slot_at labels x ≡ name.label → (columns' : List ℕ) → columns' ≡ set_slot columns (name.phase * count + x) (c + 1) → RowMapped r u labels count columns columns' c (c + 1)
-      row_put c e columns' q = record {
-        counted = rw (taken r u name N h) refl;
-        put = λ t. (x, b, e ∙ N.label t, q ∙ ap (λ (p : ℕ). set_slot columns (p * count + x) (c + 1)) (N.phase t));
-        kept = λ t. absurd (false≢true (sym t ∙ taken r u name N h));
-        long = ap length q ∙ length-sets columns (2 * (name.phase * count + x)) (u16_bytes (c + 1));
-      }
+-- There is a slot for the name of a row that is asked for.
+pub slot-inside : (r : Row) (u : Bool) (name : Name) → NameIs r u name → (phases : ℕ) (labels : List ℕ) (count : ℕ) (columns : List ℕ) → RowThere r u phases labels count columns → not name.wanted ≡ false → (x : ℕ) → x < count → 2 * (name.phase * count + x) + 2 ≤ length columns
+slot-inside r u name N phases labels count columns R h x b =
+    let t : wanted_row u r ≡ true = sym N.wanted ∙ not-false name.wanted h in
+    omega (arith, slot-below phases count name.phase x (omega (arith, N.phase t, R.phased t)) b, R.columns-fit)
 
 -- ---- the column of a name, one row more
 
 module _ (f : Row → Bool) (rows : List Row) (l p : ℕ) where
-  pub column-none : column_of f rows 0 l p ≡ 0
+  column-none : column_of f rows 0 l p ≡ 0
   unfolding column_of
   column-none = refl
 
   -- A row of another name.
-  pub column-same : (y : ℕ) → is_called f rows l p y ≡ false → column_of f rows (suc y) l p ≡ column_of f rows y l p
+  column-same : (y : ℕ) → is_called f rows l p y ≡ false → column_of f rows (suc y) l p ≡ column_of f rows y l p
   unfolding column_of
   column-same y e =
       let g = is_called f rows l p in
@@ -91,7 +59,7 @@ module _ (f : Row → Bool) (rows : List Row) (l p : ℕ) where
       ]
 
   -- The first row of this name.
-  pub column-new : (y : ℕ) → is_called f rows l p y ≡ true → ((j : ℕ) → j < y → is_called f rows l p j ≡ false) → column_of f rows (suc y) l p ≡ place_among f rows y + 1
+  column-new : (y : ℕ) → is_called f rows l p y ≡ true → ((j : ℕ) → j < y → is_called f rows l p j ≡ false) → column_of f rows (suc y) l p ≡ place_among f rows y + 1
   unfolding column_of
   column-new y e before =
       let q = first_found 0 (suc y) (is_called f rows l p) y (omega arith) (omega arith) (λ j _ b. before j b) e in
@@ -113,7 +81,7 @@ module _ (u : Bool) (folded : List Row) (phases : ℕ) (labels : List ℕ) (coun
   f = wanted_row u
 
   module _ (y : ℕ) (h : y < length folded) (columns columns' : List ℕ) (long : length columns ≡ length columns₀) (c d : ℕ) (few : c < 2 ^ 15) (counts : c ≡ place_among f folded y) (P : RowMapped (row_at folded y) u labels count columns columns' c d) (old : ColumnsOf f folded y phases labels count columns) where
-    pub columns-more : ColumnsOf f folded (suc y) phases labels count columns'
+    columns-more : ColumnsOf f folded (suc y) phases labels count columns'
     columns-more p x bp bx = go (f (row_at folded y)) refl
       where
         slot : ℕ
@@ -139,8 +107,7 @@ module _ (u : Bool) (folded : List Row) (phases : ℕ) (labels : List ℕ) (coun
                 let ep : p ≡ q = sym (digits_div p bx) ∙ ap (λ (k : ℕ). k / count) e ∙ digits_div q (P.put w).1 in
                 let ex : x ≡ z = sym (digits_mod p bx) ∙ ap (λ (k : ℕ). k % count) e ∙ digits_mod q (P.put w).1 in
                 let l : label_of (row_at folded y) ≡ slot_at labels x = sym (P.put w).2 ∙ ap (slot_at labels) (sym ex) in
-                let room : 2 * (q * count + z) + 2 ≤ length columns =
-                (let m : suc q ≤ phases = R.phased y h w in omega (arith, long, mul-le-mul_right count m, suc-mul q count, (P.put w).1, R.columns-fit)) in
+                let room : 2 * (q * count + z) + 2 ≤ length columns = omega (arith, long, R.columns-fit, slot-below phases count q z (R.phased y h w) (P.put w).1) in
                 ap (slot_at columns') e ∙ ap (λ (k : List ℕ). slot_at k (q * count + z)) (P.put w).3 ∙ slot_same columns (q * count + z) (c + 1) room (omega arith)
                 ∙ ap (λ (k : ℕ). k + 1) counts
                 ∙ sym (column-new f folded (slot_at labels x) p y (called_of f folded (slot_at labels x) p y w l (sym ep)) (λ j b. fails (is_called f folded (slot_at labels x) p j) (λ t. let k = called_is f folded (slot_at labels x) p j t in let s : j ≡ y = R.unique j y (omega arith) h k.0 w (k.1 ∙ sym l) (k.2 ∙ ep) in omega arith)))
@@ -153,17 +120,15 @@ module _ (u : Bool) (folded : List Row) (phases : ℕ) (labels : List ℕ) (coun
 -- ---- all rows
 
 -- After y rows: `column` columns are set, and the next label is sought from `from` on.
-pub record Mapping (file : List ℕ) (n : ℕ) (u : Bool) (phases : ℕ) (labels : List ℕ) (count : ℕ) (columns₀ : List ℕ) (y column from : ℕ) (columns : List ℕ) : Type 0 where
-  pub within : y ≤ n
+pub record Mapping (file : List ℕ) (u : Bool) (phases : ℕ) (labels : List ℕ) (count : ℕ) (columns₀ : List ℕ) (y column from : ℕ) (columns : List ℕ) : Type 0 where
   pub few : column ≤ y
   pub counts : column ≡ place_among (wanted_row u) (netlist_of file) y
   pub from-few : from ≤ count
   pub long : length columns ≡ length columns₀
   pub maps : ColumnsOf (wanted_row u) (netlist_of file) y phases labels count columns
 
-pub mapping-none : (file : List ℕ) (n : ℕ) (u : Bool) (phases : ℕ) (labels : List ℕ) (count : ℕ) (columns : List ℕ) → columns ≡ replicate (length columns) 0 → Mapping file n u phases labels count columns 0 0 0 columns
-mapping-none file n u phases labels count columns zeros = record {
-  within = omega arith;
+pub mapping-none : (file : List ℕ) (u : Bool) (phases : ℕ) (labels : List ℕ) (count : ℕ) (columns : List ℕ) → columns ≡ replicate (length columns) 0 → Mapping file u phases labels count columns 0 0 0 columns
+mapping-none file u phases labels count columns zeros = record {
   few = omega arith;
   counts = refl;
   from-few = omega arith;
@@ -171,7 +136,7 @@ mapping-none file n u phases labels count columns zeros = record {
   maps = λ p x bp bx. slots-cleared columns (length columns) zeros (p * count + x) ∙ sym (column-none (wanted_row u) (netlist_of file) (slot_at labels x) p);
 }
 
-module _ (file : List ℕ) (n : ℕ) (H : HasRows file n) (u : Bool) (phases : ℕ) (labels : List ℕ) (count : ℕ) (columns₀ : List ℕ) (R : MapReady (wanted_row u) (netlist_of file) phases labels count columns₀) (y column from : ℕ) (columns : List ℕ) (M : Mapping file n u phases labels count columns₀ y column from columns) where
+module _ (file : List ℕ) (n : ℕ) (H : HasRows file n) (u : Bool) (phases : ℕ) (labels : List ℕ) (count : ℕ) (columns₀ : List ℕ) (R : MapReady (wanted_row u) (netlist_of file) phases labels count columns₀) (y column from : ℕ) (columns : List ℕ) (M : Mapping file u phases labels count columns₀ y column from columns) where
   module _ (h : y < n) where
     inside : y < length (netlist_of file)
     inside = omega (arith, H.count)
@@ -179,26 +144,14 @@ module _ (file : List ℕ) (n : ℕ) (H : HasRows file n) (u : Bool) (phases : �
     read_is : row_at (netlist_of file) y ≡ decode_row (read_fields file y)
     read_is = H.row_is y h
 
-    pub mapping-there : RowThere (decode_row (read_fields file y)) u phases labels count columns
-    mapping-there =
-        subst (λ (r : Row). RowThere r u phases labels count columns) read_is
-        (record { there = R.there y inside; phased = R.phased y inside; labels-fit = R.labels-fit; columns-fit = omega (arith, M.long, R.columns-fit); few = R.few })
-
-    pub mapping-more : (columns' : List ℕ) (d next : ℕ) → RowMapped (decode_row (read_fields file y)) u labels count columns columns' column d → next ≤ count → Mapping file n u phases labels count columns₀ (y + 1) d next columns'
+    pub mapping-more : (columns' : List ℕ) (d next : ℕ) → RowMapped (decode_row (read_fields file y)) u labels count columns columns' column d → next ≤ count → Mapping file u phases labels count columns₀ (y + 1) d next columns'
     mapping-more columns' d next P l =
         let Q : RowMapped (row_at (netlist_of file) y) u labels count columns columns' column d = subst (λ (r : Row). RowMapped r u labels count columns columns' column d) (sym read_is) P in
         let c : d ≡ place_among (wanted_row u) (netlist_of file) (y + 1) = omega (arith, Q.counted, M.counts, count_next (wanted_row u) constant (netlist_of file) y inside) in
         record {
-          within = omega arith;
           few = omega (arith, c, (count-some-le (wanted_row u) constant (netlist_of file) (y + 1)).0);
           counts = c;
           from-few = l;
           long = P.long ∙ M.long;
           maps = subst (λ (m : ℕ). ColumnsOf (wanted_row u) (netlist_of file) m phases labels count columns') (sym (add-one y)) (columns-more u (netlist_of file) phases labels count columns₀ R y inside columns columns' M.long column d (omega (arith, M.few, H.few)) M.counts Q M.maps);
         }
-
-  pub mapping-all : n ≤ y → ColumnsOf (wanted_row u) (netlist_of file) n phases labels count columns
-  mapping-all last =
-      let w = M.within in
-      let q : y ≡ n = omega arith in
-      subst (λ (m : ℕ). ColumnsOf (wanted_row u) (netlist_of file) m phases labels count columns) q M.maps

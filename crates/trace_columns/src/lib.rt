@@ -14,7 +14,7 @@ ghost use Rattle.blockfile.specs.Ready.{HasRows};
 ghost use Rattle.trace_columns.specs.Columns.{wanted_row, NameIs, LabelPut, LabelsListed, FoundFrom, HasLabel, RowThere, RowMapped, MapReady, ColumnsOf};
 ghost use Rattle.trace_columns.specs.TraceValues.{value_in, values_in, step_in, ValuesReady, StepsReady};
 
-use blockfile::{Fields, both};
+use blockfile::Fields;
 
 // Room for the labels of the original's inputs, two bytes each.
 pub const LABEL_BYTES: usize = 2016;
@@ -31,17 +31,15 @@ fn name_of(fields: Fields, unknown: bool) -> Name
     requires { Small fields }
     ensures { NameIs (decode_row (fields_in fields)) unknown result }
 {
-    let kind = fields.kind;
-    let reset = fields.reset;
     if unknown {
         Name {
-            wanted: both(kind == 2, reset == 2),
+            wanted: fields.kind == 2 && fields.reset == 2,
             label: fields.b,
             phase: 0,
         }
     } else {
         Name {
-            wanted: kind == 1,
+            wanted: fields.kind == 1,
             label: fields.a,
             phase: fields.b,
         }
@@ -62,11 +60,9 @@ pub fn count_rows(file: &[u8], rows: usize, unknown: bool) -> usize
     ensures { (result ≡ count_if (wanted_row unknown) (netlist_of file.now)) × (result ≤ rows) }
 {
     let mut count = 0;
-    let mut row = 0;
-    'rows: while row < rows {
+    for row in 0..rows {
         let name = name_at(file, row, unknown);
-        count += blockfile::count::one_if(name.wanted);
-        row += 1;
+        count += name.wanted as usize;
     }
     count
 }
@@ -91,10 +87,8 @@ pub fn list_labels(file: &[u8], rows: usize, unknown: bool, labels: &mut [u8]) -
     ensures { (result ≡ count_if (wanted_row unknown) (netlist_of file.now)) × LabelsListed (wanted_row unknown) (netlist_of file.now) rows labels.new }
 {
     let mut count = 0;
-    let mut row = 0;
-    'rows: while row < rows {
+    for row in 0..rows {
         count = list_label(file, row, unknown, &mut *labels, count);
-        row += 1;
     }
     count
 }
@@ -104,13 +98,11 @@ fn find_from(labels: &[u8], from: usize, count: usize, label: usize) -> usize
     requires { (2 * count ≤ length labels.now) × (from ≤ count) }
     ensures { FoundFrom labels.now from count label result }
 {
-    let mut index = from;
-    'slots: while index < count {
+    for index in from..count {
         let found = memory::slot_at(labels, index);
         if found == label {
             return index;
         }
-        index += 1;
     }
     count
 }
@@ -158,10 +150,9 @@ fn map_row(
     let column = spot.column + 1;
     let slot = name.phase * count + index;
     memory::set_slot(columns, slot, column);
-    let from = index + 1;
     Spot {
-        column: column,
-        from: from,
+        column,
+        from: index + 1,
     }
 }
 
@@ -180,8 +171,7 @@ pub fn map_rows(
     ensures { ColumnsOf (wanted_row unknown) (netlist_of folded.now) rows phases labels.now count columns.new }
 {
     let mut spot = Spot { column: 0, from: 0 };
-    let mut row = 0;
-    'rows: while row < rows {
+    for row in 0..rows {
         spot = map_row(
             folded,
             row,
@@ -192,7 +182,6 @@ pub fn map_rows(
             &mut *columns,
             spot,
         );
-        row += 1;
     }
 }
 
@@ -204,8 +193,7 @@ fn value_of(values: &[u8], base: usize, column: usize) -> u8
     if column == 0 {
         return 0;
     }
-    let offset = base + column - 1;
-    values[offset]
+    values[base + column - 1]
 }
 
 // Puts the values of `count` slots, from slot `first` on, to bytes `to` and on.
@@ -221,13 +209,9 @@ pub fn put_values(
     requires { ValuesReady columns.now first count values.now base trace.old to }
     ensures { trace.new ≡ sets trace.old to (values_in columns.now first count values.now base) }
 {
-    let mut index = 0;
-    'values: while index < count {
-        let slot = first + index;
-        let column = memory::slot_at(columns, slot);
-        let target = to + index;
-        trace[target] = value_of(values, base, column);
-        index += 1;
+    for index in 0..count {
+        let column = memory::slot_at(columns, first + index);
+        trace[to + index] = value_of(values, base, column);
     }
 }
 
@@ -245,13 +229,11 @@ pub fn put_steps(
     requires { StepsReady columns.now count phases kept steps values.now trace.old to }
     ensures { trace.new ≡ sets trace.old to (join_below steps (step_in columns.now count phases kept values.now)) }
 {
-    let mut step = 0;
     let mut target = to;
-    'steps: while step < steps {
+    for step in 0..steps {
         let first = step % phases * count;
         let base = step / phases * kept;
         put_values(columns, first, count, values, base, &mut *trace, target);
         target += count;
-        step += 1;
     }
 }

@@ -1,11 +1,8 @@
--- `find_from` meets its contract. The loop's invariant: no slot from `from` to `index` - 1 has the label. The measure is the number of slots left.
+-- `find_from`: no slot from `from` to `index` - 1 has the label.
 -- Assumes nothing.
-use Prim.Native.Nat.{◌-◌, ◌≤◌}
-use Rattle.trace_columns.proofs.NameLaws.{Misses}
+use Rattle.std.proofs.Common.{◌≡◌, ℕ, ◌<◌, ◌≤◌}
+use Rattle.memory.specs.Slots.{slot_at}
 use Rattle.trace_columns.proofs.find_from.Given as goal
 
-abbrev pub invariant-slots : goal.invariant-slots
-invariant-slots l = (l.index ≤ l.count) × Misses l.labels l.from l.count l.label l.index
-
-abbrev pub decreases-slots : goal.decreases-slots
-decreases-slots l = l.count - l.index
+abbrev pub invariant-loop-index : goal.invariant-loop-index
+invariant-loop-index l = (j : ℕ) → l.from ≤ j → j < l.index → ¬ (slot_at l.labels j ≡ l.label)
