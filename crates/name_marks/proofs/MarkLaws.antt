@@ -6,12 +6,12 @@ use mathlib.Core.Bool.{Bool, true, false, false≢true}
 use mathlib.Core.List.{List}
 use native.Mathlib.Omega.{arith}
 use native.Mathlib.Decide.{ℕ_discrete}
-use native.Mathlib.Nat.{one-mul, div_self, mod-eq_of_lt}
-use lib.ListN.{length, set, length-set}
+use native.Mathlib.Nat.{div_self}
+use lib.ListN.{length, length-set}
 use lib.Seq.{get_or-set_same, get_or-set_other}
 use lib.Dec.{eqb}
 use lib.Bits.{bit_or, or_shr, or_mod, or_comm}
-use lib.Pow.{pow_pos, pow-lt}
+use lib.Pow.{pow_pos}
 use borrow.Author.Tests.{eqb-true}
 use Rattle.memory.specs.Fields.{byte_at}
 use Rattle.memory.proofs.TestLaws.{last_or}
@@ -37,13 +37,6 @@ or_left b m j h = ap (λ (n : ℕ). n % 2) (or_shr b m j) ∙ or_mod (b / 2 ^ j)
 -- The mark has the bit set.
 mark-bit : (k : ℕ) → 2 ^ k / 2 ^ k % 2 ≡ 1
 mark-bit k = ap (λ (n : ℕ). n % 2) (div_self (pow_pos k))
-
--- The mark as the code has it.
-mark-small : (k : ℕ) → k < 8 → 1 * 2 ^ k % 2 ^ 8 ≡ 2 ^ k
-mark-small k h = ap (λ (n : ℕ). n % 2 ^ 8) (one-mul (2 ^ k)) ∙ mod-eq_of_lt (pow-lt {i = k} {j = 8} h)
-
-pub bit-set : (marks : List ℕ) (s : ℕ) → set marks (s / 8) (bit_or (byte_at marks (s / 8)) (1 * 2 ^ (s % 8) % 2 ^ 8)) ≡ with_bit marks s
-bit-set marks s = ap (λ (m : ℕ). set marks (s / 8) (bit_or (byte_at marks (s / 8)) m)) (mark-small (s % 8) (omega arith))
 
 module _ (marks : List ℕ) (s : ℕ) (inside : s / 8 < length marks) where
   abbrev mark : ℕ

@@ -49,13 +49,11 @@ fn name_is_new(file: &[u8], row: usize) -> bool
     ensures { result ≡ label_is_new (netlist_of file.now) row }
 {
     let here = blockfile::read_row(file, row);
-    let mut earlier = 0;
-    'each: while earlier < row {
+    for earlier in 0..row {
         let fields = blockfile::read_row(file, earlier);
         if row_questions::same_name(here, fields) {
             return false;
         }
-        earlier += 1;
     }
     true
 }

@@ -1,11 +1,8 @@
 -- `label_is_new` meets its contract: by the marks, or by comparison.
 -- Assumes nothing.
 use borrow.Author.Rules.{rules}
-use Rattle.name_marks.proofs.MarkLaws.{name-inside, label-none, marks-same, marks-named, label-free}
+use Rattle.name_marks.proofs.MarkLaws.{label-none, marks-same, marks-named, label-free}
 use Rattle.name_marks.proofs.label_is_new.Goals as goal
-
-pub mark_new-requires : goal.mark_new-requires
-mark_new-requires c = search (name-inside, rules)
 
 pub returns-then-mark_new : goal.returns-then-mark_new
 returns-then-mark_new c = search (label-free, marks-named, rules)
