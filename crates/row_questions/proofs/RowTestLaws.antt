@@ -1,18 +1,17 @@
 -- The tests of a row, by its kind.
 -- Assumes nothing.
-use Prim.Native.Nat.{ℕ, zero, suc, ◌+◌, ◌*◌, ◌<◌, ◌≤◌, ◌/◌, ◌^◌}
+use Prim.Native.Nat.{ℕ, zero, suc, ◌<◌, ◌≤◌}
 use mathlib.Core.Path.{◌≡◌, refl, sym, ap, ◌∙◌}
 use mathlib.Core.Logic.{◌⊎◌, inl, inr, ⊎_elim}
-use mathlib.Core.Bool.{Bool, true, false, cond, not, ◌&&◌, ◌||◌, false≢true}
+use mathlib.Core.Bool.{false, cond, not, ◌&&◌, ◌||◌}
 use mathlib.Core.List.{List}
 use native.Mathlib.Omega.{arith}
-use lib.ListN.{length, take}
+use lib.ListN.{take}
 use lib.Dec.{eqb, ltb}
-use borrow.Author.Tests.{le-leb, lt-leb, lt-ltb, le-ltb, ne_eqb}
-use Rattle.memory.specs.Fields.{byte_at}
+use borrow.Author.Tests.{le-leb}
 use Rattle.netlist.specs.Rows.{Row, row_from_fields, decode_row, label_of, has_name}
-use Rattle.netlist.specs.FileFormat.{row_offset, read_fields, netlist_of}
-use Rattle.questions.specs.Questions.{fields_right, names_node, literals_right}
+use Rattle.netlist.specs.FileFormat.{netlist_of}
+use Rattle.questions.specs.Questions.{fields_right, literals_right}
 use Rattle.questions.proofs.PlainWords.{fields_right-iff}
 use Rattle.questions.proofs.AcceptedFiles.{Operand}
 use Rattle.blockfile.specs.declared.Fields.{Fields}
@@ -21,33 +20,9 @@ use Rattle.blockfile.specs.Ready.{HasRows}
 use Rattle.row_questions.specs.declared.RowTests.{RowTests}
 use Rattle.row_questions.specs.Slots.{labels, slot_of}
 use Rattle.row_questions.specs.Tally.{output_tally, row_tally, tally_of}
-use Rattle.row_questions.specs.RowTested.{operand_by, TestsOf}
+use Rattle.row_questions.specs.RowTested.{TestsOf}
 use Rattle.row_questions.proofs.TallyLaws.{only-tally}
-use Rattle.row_questions.proofs.NameLaws.{and-three, sorts-of, slot_small}
-
--- ---- question 9's nodes
-
-module _ (f : List ℕ) (n l : ℕ) (R : HasRows f n) where
-  -- The byte that says the named row's kind stands in the file.
-  pub kind-inside : (o : ℕ) → l / 2 < n → o ≡ row_offset (l / 2) → o < length f
-  kind-inside o h e = omega (arith, e, R.inside (l / 2) h)
-
-  pub names-yes : (o : ℕ) → l / 2 < n → o ≡ row_offset (l / 2) → not (eqb (byte_at f o) 6) ≡ names_node (netlist_of f) l
-  names-yes o h e =
-      let k : l / 2 < length (netlist_of f) = omega (arith, R.count) in
-      rw (lt-ltb (l / 2) (length (netlist_of f)) k, R.row_is (l / 2) h, (sorts-of (read_fields f (l / 2))).output-if, e)
-
-  pub names-no : n ≤ l / 2 → false ≡ names_node (netlist_of f) l
-  names-no h = let k : length (netlist_of f) ≤ l / 2 = omega (arith, R.count) in rw (le-ltb (l / 2) (length (netlist_of f)) k)
-
--- What a gate's operand names.
-pub operand-any : (any : Bool) (rows : List Row) (i l : ℕ) {t : Bool} → any ≡ true → t ≡ names_node rows l → t ≡ operand_by any rows i l
-operand-any any rows i l e told = rw e told
-
-pub operand-earlier : (any : Bool) (rows : List Row) (i l : ℕ) → any ≡ false → ltb (l / 2) i ≡ operand_by any rows i l
-operand-earlier any rows i l e = rw e
-
--- ---- the tests
+use Rattle.row_questions.proofs.NameLaws.{slot_small}
 
 label-fits : (w : Fields) → Small w → label_of (decode_row (fields_in w)) < labels
 label-fits w s = go w.kind
@@ -61,16 +36,6 @@ label-fits w s = go w.kind
     go (suc (suc (suc (suc (suc zero))))) = omega arith
     go (suc (suc (suc (suc (suc (suc zero)))))) = s.b-small
     go (suc (suc (suc (suc (suc (suc (suc k))))))) = omega arith
-
--- A test of two or three, each told before.
-pub two-told : {s t u : Bool} (x y : Bool) → s ≡ t && u → t ≡ x → u ≡ y → s ≡ x && y
-two-told x y e f g = rw (← f, ← g) e
-
-pub three-told : {r s t u v : Bool} (x y z : Bool) → r ≡ s && v → s ≡ t && u → t ≡ x → u ≡ y → v ≡ z → r ≡ x && y && z
-three-told x y z d e f g h = two-told (x && y) z d (two-told x y e f g) h
-
-pub four : (w x y z : Bool) {s t u : Bool} → s ≡ t && z → t ≡ u && y → u ≡ w && x → s ≡ w && x && y && z
-four w x y z e f g = and-three (w && x) y z e (f ∙ ap (λ (b : Bool). b && y) g)
 
 -- The row of these fields, if its kind is k.
 abbrev row_of : ℕ → Fields → Row
@@ -107,22 +72,3 @@ module _ {operand : Operand} {f : List ℕ} {n : ℕ} (R : HasRows f n) {i : ℕ
       go (suc (suc (suc zero))) a b c h = inl refl
       go (suc (suc (suc (suc zero)))) a b c h = inr refl
       go (suc (suc (suc (suc (suc k))))) a b c h = absurd (omega arith)
-
-  -- Of a kind above 6: the arms of the kinds before leave no other.
-  pub tests-none : 5 ≤ w.kind → (w.kind ≡ 5 → ⊥) → (w.kind ≡ 6 → ⊥) → t.kind ≡ false → t.tally ≡ 0 → TestsOf operand (netlist_of f) i (fields_in w) t
-  tests-none l a b e added =
-      let h : 6 < w.kind = omega (arith, l, a, b) in
-      let S = sorts-of (fields_in w) in
-      record {
-        kind = rw (e, lt-leb w.kind 6 h);
-        fields = λ q. absurd (false≢true (sym e ∙ q));
-        named = λ q. absurd (false≢true (sym e ∙ q));
-        slot = λ q. absurd (false≢true (sym e ∙ q));
-        slot-fits = λ q _. absurd (false≢true (sym e ∙ q));
-        literals = λ q. absurd (false≢true (sym e ∙ q));
-        tally = added ∙ rw (S.input-if, S.register-if, S.unknown-if, S.output-if, ne_eqb w.kind 1 (λ q. omega (arith, h, q)), ne_eqb w.kind 2 (λ q. omega (arith, h, q)), ne_eqb w.kind 6 (λ q. omega (arith, h, q))) refl;
-      }
-
--- What a register adds.
-pub register-tally : (r a b : ℕ) {x : ℕ} → x ≡ cond (eqb r 2) 1 0 → 2 ^ 16 + 2 ^ 32 * x ≡ row_tally (row_from_fields 2 r a b 0)
-register-tally r a b e = omega (arith, e)

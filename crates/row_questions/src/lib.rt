@@ -11,8 +11,8 @@ ghost use Rattle.blockfile.specs.Ready.{HasRows};
 ghost use Rattle.row_questions.specs.Tally.{output_tally, tally_of, counts_from};
 ghost use Rattle.row_questions.specs.RowTested.{operand_by, TestsOf};
 
-use blockfile::count::{Counts, one_if};
-use blockfile::{Fields, both};
+use blockfile::Fields;
+use blockfile::count::Counts;
 use netlist::MOST_PHASES;
 
 // What the tests of a row found, its name's slot, and what it adds to the tally.
@@ -85,56 +85,49 @@ pub fn test_row(
     requires tally_value { tally ≡ tally_of (take row (netlist_of file.now)) }
     ensures { TestsOf (operand_by unordered) (netlist_of file.now) row (fields_in fields) result }
 {
-    let kind = fields.kind;
-    let reset = fields.reset;
-    let a = fields.a;
-    let b = fields.b;
-    let c = fields.c;
+    let Fields {
+        kind,
+        reset,
+        a,
+        b,
+        c,
+    } = fields;
     let nodes = tally < OUTPUT;
-    let node = both(row != 0, nodes);
+    let node = row != 0 && nodes;
     match kind {
         0 => RowTests {
-            kind: both(row == 0, nodes),
-            fields: both(both(both(reset == 0, a == 0), b == 0), c == 0),
+            kind: row == 0 && nodes,
+            fields: reset == 0 && a == 0 && b == 0 && c == 0,
             named: false,
             slot: 0,
             literals: true,
             tally: 0,
         },
-        1 => {
-            let base = MOST_PHASES * a;
-            let slot = base + b;
-            RowTests {
-                kind: node,
-                fields: both(both(reset == 0, b < MOST_PHASES), c == 0),
-                named: true,
-                slot: slot,
-                literals: true,
-                tally: INPUT,
-            }
-        }
-        2 => {
-            let slot = REGISTER_SLOTS + b;
-            let unknown = UNKNOWN * one_if(reset == 2);
-            let added = REGISTER + unknown;
-            RowTests {
-                kind: node,
-                fields: both(reset <= 2, c == 0),
-                named: true,
-                slot: slot,
-                literals: names_node(file, rows, a),
-                tally: added,
-            }
-        }
+        1 => RowTests {
+            kind: node,
+            fields: reset == 0 && b < MOST_PHASES && c == 0,
+            named: true,
+            slot: MOST_PHASES * a + b,
+            literals: true,
+            tally: INPUT,
+        },
+        2 => RowTests {
+            kind: node,
+            fields: reset <= 2 && c == 0,
+            named: true,
+            slot: REGISTER_SLOTS + b,
+            literals: names_node(file, rows, a),
+            tally: REGISTER + UNKNOWN * usize::from(reset == 2),
+        },
         3 | 4 => {
             let first = names_operand(file, rows, row, unordered, a);
             let second = names_operand(file, rows, row, unordered, b);
             RowTests {
                 kind: node,
-                fields: both(reset == 0, c == 0),
+                fields: reset == 0 && c == 0,
                 named: false,
                 slot: 0,
-                literals: both(first, second),
+                literals: first && second,
                 tally: 0,
             }
         }
@@ -147,22 +140,18 @@ pub fn test_row(
                 fields: reset == 0,
                 named: false,
                 slot: 0,
-                literals: both(both(first, second), third),
+                literals: first && second && third,
                 tally: 0,
             }
         }
-        6 => {
-            let base = OUTPUT_SLOTS + MOST_PHASES * b;
-            let slot = base + c;
-            RowTests {
-                kind: row != 0,
-                fields: both(reset == 0, c < MOST_PHASES),
-                named: true,
-                slot: slot,
-                literals: names_node(file, rows, a),
-                tally: OUTPUT,
-            }
-        }
+        6 => RowTests {
+            kind: row != 0,
+            fields: reset == 0 && c < MOST_PHASES,
+            named: true,
+            slot: OUTPUT_SLOTS + MOST_PHASES * b + c,
+            literals: names_node(file, rows, a),
+            tally: OUTPUT,
+        },
         7..=255 => RowTests {
             kind: false,
             fields: false,
@@ -182,11 +171,11 @@ pub fn counts_of(rows: usize, tally: usize) -> Counts
     let outputs = tally / OUTPUT;
     let nodes = rows - outputs;
     Counts {
-        nodes: nodes,
+        nodes,
         inputs: tally % COUNT,
         registers: tally / REGISTER % COUNT,
         unknown: tally / UNKNOWN % COUNT,
-        outputs: outputs,
+        outputs,
     }
 }
 
@@ -194,11 +183,10 @@ pub fn counts_of(rows: usize, tally: usize) -> Counts
 pub fn same_name(x: Fields, y: Fields) -> bool
     ensures { result ≡ same_name (decode_row (fields_in x)) (decode_row (fields_in y)) }
 {
-    let kind = x.kind;
-    match kind {
-        1 => both(both(y.kind == 1, y.a == x.a), y.b == x.b),
-        2 => both(y.kind == 2, y.b == x.b),
-        6 => both(both(y.kind == 6, y.b == x.b), y.c == x.c),
+    match x.kind {
+        1 => y.kind == 1 && y.a == x.a && y.b == x.b,
+        2 => y.kind == 2 && y.b == x.b,
+        6 => y.kind == 6 && y.b == x.b && y.c == x.c,
         _ => false,
     }
 }

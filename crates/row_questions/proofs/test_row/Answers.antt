@@ -1,27 +1,26 @@
 -- `test_row` meets its contract, kind by kind.
 -- Assumes nothing.
+use mathlib.Core.Path.{refl}
+use native.Mathlib.Omega.{arith}
 use borrow.Author.Rules.{rules}
-use Rattle.row_questions.proofs.NameLaws.{and_yes, and-three}
-use Rattle.row_questions.proofs.RowTestLaws.{two-told, three-told, four, tests-of, tests-gate, tests-none, register-tally}
+use Rattle.std.proofs.lemmas.Grind.{common_steps}
+use Rattle.row_questions.proofs.RowTestLaws.{tests-of, tests-gate}
 use Rattle.row_questions.proofs.test_row.Goals as goal
 
-pub returns-in-0 : goal.returns-in-0
-returns-in-0 c = search (tests-of, four, rules)
+pub returns-after-b-lt-MOST_PHASES : goal.returns-after-b-lt-MOST_PHASES
+returns-after-b-lt-MOST_PHASES c = tests-of c.requires.has_rows.0 c.requires.has_rows.1.0 c.requires.tally_value c.requires.has_rows.1.1 _ 1 (omega arith) c.in-1.is (grind (arith, common_steps)) (grind (arith, common_steps)) refl refl refl refl
 
-pub returns-in-1 : goal.returns-in-1
-returns-in-1 c = search (tests-of, and-three, rules)
+pub returns-after-reset-le2 : goal.returns-after-reset-le2
+returns-after-reset-le2 c = tests-of c.requires.has_rows.0 c.requires.has_rows.1.0 c.requires.tally_value c.requires.has_rows.1.1 _ 2 (omega arith) c.in-2.is (grind (arith, common_steps)) (grind (arith, common_steps)) refl refl (search rules) (grind (arith, common_steps))
 
-pub returns-in-2 : goal.returns-in-2
-returns-in-2 c = search (tests-of, register-tally, rules)
+pub returns-then-first-2 : goal.returns-then-first-2
+returns-then-first-2 c = tests-gate c.requires.has_rows.0 c.requires.has_rows.1.0 c.requires.tally_value c.requires.has_rows.1.1 _ (search rules) (search rules) (search rules) (search rules) (grind (arith, common_steps)) (grind (arith, common_steps)) refl refl (grind (arith, common_steps)) refl
 
-pub returns-in-5 : goal.returns-in-5
-returns-in-5 c = search (tests-of, three-told, rules)
+pub returns-else-first-2 : goal.returns-else-first-2
+returns-else-first-2 c = tests-gate c.requires.has_rows.0 c.requires.has_rows.1.0 c.requires.tally_value c.requires.has_rows.1.1 _ (search rules) (search rules) (search rules) (search rules) (grind (arith, common_steps)) (grind (arith, common_steps)) refl refl (grind (arith, common_steps)) refl
 
-pub returns-in-6 : goal.returns-in-6
-returns-in-6 c = search (tests-of, and_yes, rules)
+pub returns-then-second : goal.returns-then-second
+returns-then-second c = tests-of c.requires.has_rows.0 c.requires.has_rows.1.0 c.requires.tally_value c.requires.has_rows.1.1 _ 5 (omega arith) c.in-5.is (grind (arith, common_steps)) (grind (arith, common_steps)) refl refl (grind (arith, common_steps)) refl
 
-pub returns-in-3 : goal.returns-in-3
-returns-in-3 c = search (tests-gate, two-told)
-
-pub returns-in-7-to-255 : goal.returns-in-7-to-255
-returns-in-7-to-255 c = search (tests-none, rules)
+pub returns-else-second : goal.returns-else-second
+returns-else-second c = tests-of c.requires.has_rows.0 c.requires.has_rows.1.0 c.requires.tally_value c.requires.has_rows.1.1 _ 5 (omega arith) c.in-5.is (grind (arith, common_steps)) (grind (arith, common_steps)) refl refl (grind (arith, common_steps)) refl
