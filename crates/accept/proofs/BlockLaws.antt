@@ -17,8 +17,8 @@ use Rattle.questions.proofs.QuestionLaws.{number-none, items-none}
 use Rattle.questions.proofs.PlainWords.{length_right-iff}
 use Rattle.questions.proofs.AcceptedFiles.{block-right, last-count}
 use Rattle.blockfile.specs.Ready.{HasRows}
-use Rattle.accept.specs.declared.PartAnswer.{PartAnswer}
-use Rattle.accept.specs.declared.PartAnswer.TheVariants.{Passed}
+use Rattle.std.specs.Prelude.{Result, Ok}
+use Rattle.accept.specs.declared.FileRefusal.{FileRefusal}
 use Rattle.accept.specs.Parts.{part_refusal, block_asked, blocks_refusal, BlocksRight}
 
 -- Question 1 was answered with yes.
@@ -33,8 +33,8 @@ module _ (f : List ℕ) (b : Bool) (told : b ≡ length_right f) (h : not b ≡ 
   blocks-few = words.few-blocks
 
   -- So were those of the blocks.
-  pub blocks-right : (a : PartAnswer) → part_refusal a ≡ blocks_refusal f → a ≡ Passed → BlocksRight f
-  blocks-right a asked e =
+  pub blocks-right : (a : Result Unit FileRefusal) → part_refusal a ≡ blocks_refusal f → (u : Unit) → a ≡ Ok u → BlocksRight f
+  blocks-right a asked u e =
       let none = number-none (blocks_refusal f) (sym asked ∙ ap part_refusal e) in
       let n = last-count f words (λ B m. block-right (block_count f) B (block_at f B) (items-none (block_count f) (block_asked f) none B m)) in
       record { size = words; last_some = n.0; last-most = n.1 }

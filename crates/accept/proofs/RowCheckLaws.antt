@@ -30,10 +30,8 @@ use Rattle.name_marks.specs.Marks.{mark_bytes, NamesMarked}
 use Rattle.name_marks.proofs.MarkLaws.{marks-none}
 use Rattle.accept.specs.declared.FileRefusal.{FileRefusal}
 use Rattle.accept.specs.declared.FileRefusal.TheVariants.{Kind, Field, Label, Literal, NoOutput}
-use Rattle.accept.specs.declared.Acceptance.{Acceptance}
-use Rattle.accept.specs.declared.Acceptance.TheVariants.{Accepted, Refused}
-use Rattle.accept.specs.declared.PartAnswer.{PartAnswer}
-use Rattle.accept.specs.declared.PartAnswer.TheVariants as part
+use Rattle.std.specs.Prelude.{Result, Ok, Err}
+use Rattle.accept.specs.declared.Accepted.{Accepted}
 use Rattle.accept.specs.Refusals.{refusal_in, Answered}
 use Rattle.accept.specs.Parts.{refusal_at, RowAnswered}
 use Rattle.accept.proofs.RefusalLaws.{number-positive, items-stop, items-again, answered-no, answered-yes}
@@ -54,7 +52,7 @@ unfolding row_questions netlist_of
 asked-model operand f i = refl
 
 -- A refusal of the row says its number.
-refused : (operand : Operand) (f : List ℕ) (i m : ℕ) (few : Bool) (after : List ℕ) (x : FileRefusal) → refusal_in x ≡ record { number = suc m; place = i } → row_questions operand (fields_of f) i ≡ suc m → RowAnswered operand f i few (part.Refused x) after
+refused : (operand : Operand) (f : List ℕ) (i m : ℕ) (few : Bool) (after : List ℕ) (x : FileRefusal) → refusal_in x ≡ record { number = suc m; place = i } → row_questions operand (fields_of f) i ≡ suc m → RowAnswered operand f i few (Err x) after
 refused operand f i m few after x q e = record { refusal = q ∙ sym (ap (λ (k : ℕ). refusal_at k i) e); names = λ z. absurd (omega (arith, e, z)) }
 
 module _ {operand : Operand} {f : List ℕ} (R : HasRows f (length (netlist_of f))) {i : ℕ} (within : i < length (netlist_of f)) {t : RowTests} (T : TestsOf operand (netlist_of f) i (read_fields f i) t) where
@@ -78,7 +76,7 @@ module _ {operand : Operand} {f : List ℕ} (R : HasRows f (length (netlist_of f
       ∙ ap (λ (r : Row). row_answer k g l (literals_right operand (netlist_of f) i r)) here
       ∙ ap (λ (b : Bool). row_answer b g l (literals_right operand (netlist_of f) i (decode_row (read_fields f i)))) (sym kind-is)
 
-  pub no_kind : {few : Bool} {after : List ℕ} → not t.kind ≡ true → RowAnswered operand f i few (part.Refused (Kind i)) after
+  pub no_kind : {few : Bool} {after : List ℕ} → not t.kind ≡ true → RowAnswered operand f i few (Err (Kind i)) after
   no_kind h = refused operand f i 5 _ _ (Kind i) refl (asked ∙ rw (not-true t.kind h))
 
   module _ (kind : not t.kind ≡ false) where
@@ -88,7 +86,7 @@ module _ {operand : Operand} {f : List ℕ} (R : HasRows f (length (netlist_of f
     fields-is : t.fields ≡ fields_test (read_fields f i)
     fields-is = T.fields kind-yes
 
-    pub no_field : {few : Bool} {after : List ℕ} → not t.fields ≡ true → RowAnswered operand f i few (part.Refused (Field i)) after
+    pub no_field : {few : Bool} {after : List ℕ} → not t.fields ≡ true → RowAnswered operand f i few (Err (Field i)) after
     no_field h = refused operand f i 6 _ _ (Field i) refl (asked ∙ rw (kind-yes, ← fields-is, not-true t.fields h))
 
     -- The name and the slot are those of the row.
@@ -106,14 +104,14 @@ module _ {operand : Operand} {f : List ℕ} (R : HasRows f (length (netlist_of f
       slot-fits = T.slot-fits kind-yes (not-false t.fields fields)
 
       module _ {new : Bool} (Label-is : new ≡ label_is_new (netlist_of f) i) where
-        pub no_label : {few : Bool} {after : List ℕ} → not new ≡ true → RowAnswered operand f i few (part.Refused (Label i)) after
+        pub no_label : {few : Bool} {after : List ℕ} → not new ≡ true → RowAnswered operand f i few (Err (Label i)) after
         no_label h = refused operand f i 7 _ _ (Label i) refl (asked ∙ rw (kind-yes, fields-yes, ← Label-is, not-true new h))
 
         module _ (label : not new ≡ false) where
-          pub no-literal : {few : Bool} {after : List ℕ} → not t.literals ≡ true → RowAnswered operand f i few (part.Refused (Literal i)) after
+          pub no-literal : {few : Bool} {after : List ℕ} → not t.literals ≡ true → RowAnswered operand f i few (Err (Literal i)) after
           no-literal h = refused operand f i 8 _ _ (Literal i) refl (asked ∙ rw (kind-yes, fields-yes, ← Label-is, not-false new label, ← T.literals kind-yes, not-true t.literals h))
 
-          pub row-right : {few : Bool} {after : List ℕ} → not t.literals ≡ false → NamesMarked few (netlist_of f) (i + 1) after → RowAnswered operand f i few part.Passed after
+          pub row-right : {few : Bool} {after : List ℕ} → not t.literals ≡ false → NamesMarked few (netlist_of f) (i + 1) after → RowAnswered operand f i few (Ok tt) after
           row-right h M =
               let e : row_questions operand (fields_of f) i ≡ 0 = asked ∙ rw (kind-yes, fields-yes, ← Label-is, not-false new label, ← T.literals kind-yes, not-false t.literals h) in
               record { refusal = sym (ap (λ (q : ℕ). refusal_at q i) e); names = λ _. M }
@@ -144,7 +142,7 @@ rows-asked : (operand : Operand) (f : List ℕ) → rows_refusal operand (fields
 unfolding rows_refusal netlist_of
 rows-asked operand f = ap (λ (n : ℕ). first_refusal (item_questions n (row_questions operand (fields_of f)) ∷ tenth f)) (fields-length f)
 
-abbrev RowsAnswered : Operand → List ℕ → Acceptance → Type 0
+abbrev RowsAnswered : Operand → List ℕ → Result Accepted FileRefusal → Type 0
 RowsAnswered operand f a = Answered (rows_refusal operand (fields_of f)) (netlist_of f) a
 
 -- What the row check is asked for.
@@ -169,13 +167,13 @@ module _ {operand : Operand} {f : List ℕ} {rows : ℕ} (R : HasRows f rows) {n
       sum_is : tally + t.tally ≡ tally_of (take (n + 1) (netlist_of f))
       sum_is = omega (arith, P.sorts, T.tally ∙ ap (λ (w : RowFields). row_tally (decode_row w)) read, ap row_tally (R.row_is n more), tally-next (netlist_of f) n row_below)
 
-      module _ {a : PartAnswer} {after : List ℕ} (A : RowAnswered operand f n few a after) where
-        pub rows-again : a ≡ part.Passed → PassedRows operand f (tally + t.tally) few after (n + 1)
-        rows-again e =
-            let right = items-again (row_count f) (row_questions operand (fields_of f)) n within P.right a A.refusal e in
+      module _ {a : Result Unit FileRefusal} {after : List ℕ} (A : RowAnswered operand f n few a after) where
+        pub rows-again : (u : Unit) → a ≡ Ok u → PassedRows operand f (tally + t.tally) few after (n + 1)
+        rows-again u e =
+            let right = items-again (row_count f) (row_questions operand (fields_of f)) n within P.right a A.refusal u e in
             record { right = right; sorts = sum_is; names = A.names (right n (omega arith)) }
 
-    pub rows-stop : {a : PartAnswer} {after : List ℕ} → RowAnswered operand f n few a after → (x : FileRefusal) → a ≡ part.Refused x → RowsAnswered operand f (Refused x)
+    pub rows-stop : {a : Result Unit FileRefusal} {after : List ℕ} → RowAnswered operand f n few a after → (x : FileRefusal) → a ≡ Err x → RowsAnswered operand f (Err x)
     rows-stop {a = a} A x e =
         let q = items-stop (row_count f) (row_questions operand (fields_of f)) n within P.right a A.refusal x e in
         let p : 0 < (items operand f).number = omega (arith, number-positive x, ap (λ (y : Refusal). y.number) q) in
@@ -200,8 +198,8 @@ module _ {operand : Operand} {f : List ℕ} {rows : ℕ} (R : HasRows f rows) {n
       outputs-told : c.outputs ≡ count_if is_output (netlist_of f)
       outputs-told = ap (λ (k : Counts). k.outputs) counts ∙ outputs
 
-      pub rows-no-output : c.outputs ≡ 0 → RowsAnswered operand f (Refused NoOutput)
+      pub rows-no-output : c.outputs ≡ 0 → RowsAnswered operand f (Err NoOutput)
       rows-no-output e = answered-no (rows_refusal operand (fields_of f)) (netlist_of f) NoOutput (rw (only-tenth, le-ltb 0 (count_if is_output (netlist_of f)) (omega (arith, e, outputs-told))))
 
-      pub rows_right : (c.outputs ≡ 0 → ⊥) → RowsAnswered operand f (Accepted rows c)
-      rows_right e = answered-yes (rows_refusal operand (fields_of f)) (netlist_of f) rows c (rw (only-tenth, lt-ltb 0 (count_if is_output (netlist_of f)) (omega (arith, e, outputs-told)))) R.count (counts ∙ counts-right (netlist_of f) rows tally R.few R.count sorts-all)
+      pub rows_right : (c.outputs ≡ 0 → ⊥) → RowsAnswered operand f (Ok (record { rows = rows; counts = c }))
+      rows_right e = answered-yes (rows_refusal operand (fields_of f)) (netlist_of f) (record { rows = rows; counts = c }) (rw (only-tenth, lt-ltb 0 (count_if is_output (netlist_of f)) (omega (arith, e, outputs-told)))) R.count (counts ∙ counts-right (netlist_of f) rows tally R.few R.count sorts-all)

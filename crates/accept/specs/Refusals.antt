@@ -1,16 +1,14 @@
 -- The answers as the scope paper's refusals, number and place, and what an acceptance says.
 -- Interface: accept_refusal, Answered, Checked, CheckedUnordered.
 -- Assumes nothing.
-use Rattle.std.specs.Prelude.{ℕ, ◌≡◌, List, length}
+use Rattle.std.specs.Prelude.{ℕ, ◌≡◌, List, length, Result, Ok, Err}
 use Rattle.netlist.specs.Rows.{Row}
 use Rattle.netlist.specs.FileFormat.{netlist_of}
 use Rattle.questions.specs.Questions.{Refusal, no_refusal, file_refusal, unordered_refusal, counts_of}
 use Rattle.blockfile.specs.CountCode.{counts_in}
-use Rattle.blockfile.specs.declared.count.Counts as code
 use Rattle.accept.specs.declared.FileRefusal.{FileRefusal}
 use Rattle.accept.specs.declared.FileRefusal.TheVariants.{Length, Sum, Header, RowCount, Unused, Kind, Field, Label, Literal, NoOutput}
-use Rattle.accept.specs.declared.Acceptance.{Acceptance}
-use Rattle.accept.specs.declared.Acceptance.TheVariants.{Accepted, Refused}
+use Rattle.accept.specs.declared.Accepted.{Accepted}
 
 -- The question answered with no.
 abbrev pub number_of : FileRefusal → ℕ
@@ -41,20 +39,20 @@ place_of NoOutput = 0
 abbrev pub refusal_in : FileRefusal → Refusal
 refusal_in r = record { number = number_of r; place = place_of r }
 
-abbrev pub accept_refusal : Acceptance → Refusal
-accept_refusal (Accepted n c) = no_refusal
-accept_refusal (Refused r) = refusal_in r
+abbrev pub accept_refusal : Result Accepted FileRefusal → Refusal
+accept_refusal (Ok _) = no_refusal
+accept_refusal (Err r) = refusal_in r
 
 -- The answer to questions of which q is the first no, about a file of these rows.
-pub record Answered (q : Refusal) (rows : List Row) (answer : Acceptance) : Type 0 where
+pub record Answered (q : Refusal) (rows : List Row) (answer : Result Accepted FileRefusal) : Type 0 where
   pub refusal : accept_refusal answer ≡ q
-  pub count : (n : ℕ) (c : code.Counts) → answer ≡ Accepted n c → n ≡ length rows
-  pub counts : (n : ℕ) (c : code.Counts) → answer ≡ Accepted n c → counts_in c ≡ counts_of rows
+  pub count : (a : Accepted) → answer ≡ Ok a → a.rows ≡ length rows
+  pub counts : (a : Accepted) → answer ≡ Ok a → counts_in a.counts ≡ counts_of rows
 
 -- The entire outcome of Check, for all files.
-abbrev pub Checked : List ℕ → Acceptance → Type 0
+abbrev pub Checked : List ℕ → Result Accepted FileRefusal → Type 0
 Checked file answer = Answered (file_refusal file) (netlist_of file) answer
 
 -- The same where gates may stand in any order.
-abbrev pub CheckedUnordered : List ℕ → Acceptance → Type 0
+abbrev pub CheckedUnordered : List ℕ → Result Accepted FileRefusal → Type 0
 CheckedUnordered file answer = Answered (unordered_refusal file) (netlist_of file) answer

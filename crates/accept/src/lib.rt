@@ -5,21 +5,22 @@ ghost use Rattle.std.specs.Prelude.{◌≡◌, false, ◌*◌, ◌<◌, ◌≤�
 ghost use Rattle.netlist.specs.Limits.{most_blocks};
 ghost use Rattle.netlist.specs.FileFormat.{read_fields, fields_of, netlist_of};
 ghost use Rattle.questions.specs.Questions.{length_right, rows_refusal, file_refusal_with};
-ghost use Rattle.blocks.specs.BlockCode.{block_number};
+ghost use Rattle.blocks.specs.BlockCode.{question_of};
 ghost use Rattle.blockfile.specs.Ready.{HasRows};
 ghost use Rattle.row_questions.specs.RowTested.{operand_by, TestsOf};
 ghost use Rattle.name_marks.specs.Marks.{mark_bytes, NamesMarked};
-ghost use Rattle.accept.specs.Refusals.{number_of, place_of, Answered, Checked, CheckedUnordered};
-ghost use Rattle.accept.specs.Parts.{part_refusal, refusal_at, blocks_refusal, BlocksRight, RowAnswered};
+ghost use Rattle.accept.specs.Refusals.{refusal_in, Answered, Checked, CheckedUnordered};
+ghost use Rattle.accept.specs.Parts.{part_refusal, blocks_refusal, BlocksRight, RowAnswered};
 
+use blockfile::BLOCK_ROWS;
 use blockfile::count::Counts;
-use blockfile::{BLOCK_ROWS, both};
-use blocks::BlockAnswer;
+use blocks::BlockRefusal;
 use netlist::MOST_FILE_BYTES;
+use questions::Numbered;
 use row_questions::RowTests;
 
 // What a file is refused for, and the block or the row.
-#[derive(Clone, Copy)]
+#[derive(Clone, Copy, Debug, PartialEq, Eq)]
 pub enum FileRefusal {
     Length,
     Sum { block: u32 },
@@ -33,53 +34,47 @@ pub enum FileRefusal {
     NoOutput,
 }
 
-// The paper's number of a refusal, and its place.
-pub fn number_of(refusal: FileRefusal) -> u32
-    ensures { result ≡ number_of refusal }
-{
-    match refusal {
-        FileRefusal::Length => 1,
-        FileRefusal::Sum { block: _ } => 2,
-        FileRefusal::Header { block: _ } => 3,
-        FileRefusal::RowCount { block: _ } => 4,
-        FileRefusal::Unused { block: _ } => 5,
-        FileRefusal::Kind { row: _ } => 6,
-        FileRefusal::Field { row: _ } => 7,
-        FileRefusal::Label { row: _ } => 8,
-        FileRefusal::Literal { row: _ } => 9,
-        FileRefusal::NoOutput => 10,
+impl Numbered for FileRefusal {
+    ghost use Rattle.accept.specs.Refusals.{refusal_in};
+
+    ghost refusal = { refusal_in };
+
+    fn number(self) -> u32 {
+        match self {
+            FileRefusal::Length => 1,
+            FileRefusal::Sum { block: _ } => 2,
+            FileRefusal::Header { block: _ } => 3,
+            FileRefusal::RowCount { block: _ } => 4,
+            FileRefusal::Unused { block: _ } => 5,
+            FileRefusal::Kind { row: _ } => 6,
+            FileRefusal::Field { row: _ } => 7,
+            FileRefusal::Label { row: _ } => 8,
+            FileRefusal::Literal { row: _ } => 9,
+            FileRefusal::NoOutput => 10,
+        }
+    }
+
+    fn place(self) -> u32 {
+        match self {
+            FileRefusal::Length => 0,
+            FileRefusal::Sum { block } => block,
+            FileRefusal::Header { block } => block,
+            FileRefusal::RowCount { block } => block,
+            FileRefusal::Unused { block } => block,
+            FileRefusal::Kind { row } => row,
+            FileRefusal::Field { row } => row,
+            FileRefusal::Label { row } => row,
+            FileRefusal::Literal { row } => row,
+            FileRefusal::NoOutput => 0,
+        }
     }
 }
 
-pub fn place_of(refusal: FileRefusal) -> u32
-    ensures { result ≡ place_of refusal }
-{
-    match refusal {
-        FileRefusal::Length => 0,
-        FileRefusal::Sum { block } => block,
-        FileRefusal::Header { block } => block,
-        FileRefusal::RowCount { block } => block,
-        FileRefusal::Unused { block } => block,
-        FileRefusal::Kind { row } => row,
-        FileRefusal::Field { row } => row,
-        FileRefusal::Label { row } => row,
-        FileRefusal::Literal { row } => row,
-        FileRefusal::NoOutput => 0,
-    }
-}
-
-// How many rows an accepted file has, and of which sort; or what it is refused for.
+// How many rows an accepted file has, and of which sort.
 #[derive(Clone, Copy)]
-pub enum Acceptance {
-    Accepted { rows: usize, counts: Counts },
-    Refused(FileRefusal),
-}
-
-// What the questions of a part of the file come to.
-#[derive(Clone, Copy)]
-enum PartAnswer {
-    Passed,
-    Refused(FileRefusal),
+pub struct Accepted {
+    pub rows: usize,
+    pub counts: Counts,
 }
 
 // Question 1.
@@ -87,45 +82,39 @@ fn length_right(file: &[u8]) -> bool
     ensures { result ≡ length_right file.now }
 {
     let size = file.len();
-    let whole = size % 512 == 0;
-    let some = 512 <= size;
     let few = size <= MOST_FILE_BYTES;
-    both(both(whole, some), few)
+    size % 512 == 0 && 512 <= size && few
 }
 
 // ---- questions 2 to 5
 
-fn block_refusal(answer: BlockAnswer, number: usize) -> PartAnswer
+// The refusal of block `number`.
+fn in_block(refusal: BlockRefusal, number: usize) -> FileRefusal
     requires { number < most_blocks }
-    ensures { part_refusal result ≡ refusal_at (block_number answer) number }
+    ensures { refusal_in result ≡ record { number = question_of refusal; place = number } }
 {
     let block = number as u32;
-    match answer {
-        BlockAnswer::Right => PartAnswer::Passed,
-        BlockAnswer::Sum => PartAnswer::Refused(FileRefusal::Sum { block: block }),
-        BlockAnswer::Header => PartAnswer::Refused(FileRefusal::Header { block: block }),
-        BlockAnswer::RowCount => PartAnswer::Refused(FileRefusal::RowCount { block: block }),
-        BlockAnswer::Unused => PartAnswer::Refused(FileRefusal::Unused { block: block }),
+    match refusal {
+        BlockRefusal::Sum => FileRefusal::Sum { block },
+        BlockRefusal::Header => FileRefusal::Header { block },
+        BlockRefusal::RowCount => FileRefusal::RowCount { block },
+        BlockRefusal::Unused => FileRefusal::Unused { block },
     }
 }
 
 // Each block is handed to its check as a part of the file.
-fn check_blocks(file: &[u8], blocks: usize) -> PartAnswer
+fn check_blocks(file: &[u8], blocks: usize) -> Result<(), FileRefusal>
     requires { (length file.now ≡ 512 * blocks) × (blocks ≤ most_blocks) }
     ensures { part_refusal result ≡ blocks_refusal file.now }
 {
-    let mut number = 0;
-    'each: while number < blocks {
+    for number in 0..blocks {
         let start = 512 * number;
         let end = start + 512;
-        let answer = blocks::check_block(&file[start..end], number, blocks);
-        match block_refusal(answer, number) {
-            PartAnswer::Passed => {}
-            PartAnswer::Refused(refusal) => return PartAnswer::Refused(refusal),
+        if let Err(refusal) = blocks::check_block(&file[start..end], number, blocks) {
+            return Err(in_block(refusal, number));
         }
-        number += 1;
     }
-    PartAnswer::Passed
+    Ok(())
 }
 
 // ---- questions 6 to 10
@@ -138,7 +127,7 @@ fn check_row(
     tests: RowTests,
     few: bool,
     marks: &mut [u8],
-) -> PartAnswer
+) -> Result<(), FileRefusal>
     requires has_rows { HasRows file.now (length (netlist_of file.now)) × (row < length (netlist_of file.now)) }
     requires tests_of { TestsOf (operand_by unordered) (netlist_of file.now) row (read_fields file.now row) tests }
     requires names_marked { NamesMarked few (netlist_of file.now) row marks.old }
@@ -146,20 +135,20 @@ fn check_row(
 {
     let place = row as u32;
     if !tests.kind {
-        return PartAnswer::Refused(FileRefusal::Kind { row: place });
+        return Err(FileRefusal::Kind { row: place });
     }
     if !tests.fields {
-        return PartAnswer::Refused(FileRefusal::Field { row: place });
+        return Err(FileRefusal::Field { row: place });
     }
     let named = tests.named;
     let slot = tests.slot;
     if !name_marks::label_is_new(file, row, named, slot, few, &mut *marks) {
-        return PartAnswer::Refused(FileRefusal::Label { row: place });
+        return Err(FileRefusal::Label { row: place });
     }
     if !tests.literals {
-        return PartAnswer::Refused(FileRefusal::Literal { row: place });
+        return Err(FileRefusal::Literal { row: place });
     }
-    PartAnswer::Passed
+    Ok(())
 }
 
 // Questions 6 to 9 row by row, then 10. The rows are counted on the way, in one number.
@@ -169,36 +158,28 @@ fn check_each_row(
     unordered: bool,
     few: bool,
     marks: &mut [u8],
-) -> Acceptance
+) -> Result<Accepted, FileRefusal>
     requires { HasRows file.now rows × (length marks.old ≡ mark_bytes few) }
     ensures { Answered (rows_refusal (operand_by unordered) (fields_of file.now)) (netlist_of file.now) result }
 {
     let mut tally = 0;
-    let mut row = 0;
-    'each: while row < rows {
+    for row in 0..rows {
         let fields = blockfile::read_row(file, row);
         let tests = row_questions::test_row(file, rows, row, unordered, tally, fields);
         let added = tests.tally;
-        match check_row(file, row, unordered, tests, few, &mut *marks) {
-            PartAnswer::Passed => {}
-            PartAnswer::Refused(refusal) => return Acceptance::Refused(refusal),
-        }
+        check_row(file, row, unordered, tests, few, &mut *marks)?;
         tally += added;
-        row += 1;
     }
     let counts = row_questions::counts_of(rows, tally);
     if counts.outputs == 0 {
-        Acceptance::Refused(FileRefusal::NoOutput)
+        Err(FileRefusal::NoOutput)
     } else {
-        Acceptance::Accepted {
-            rows: rows,
-            counts: counts,
-        }
+        Ok(Accepted { rows, counts })
     }
 }
 
 // With few bits.
-fn check_few_rows(file: &[u8], rows: usize, unordered: bool) -> Acceptance
+fn check_few_rows(file: &[u8], rows: usize, unordered: bool) -> Result<Accepted, FileRefusal>
     requires { HasRows file.now rows }
     ensures { Answered (rows_refusal (operand_by unordered) (fields_of file.now)) (netlist_of file.now) result }
 {
@@ -214,7 +195,7 @@ fn mark_room() -> [u8; name_marks::MARK_BYTES]
 }
 
 // With a bit for each slot.
-fn check_many_rows(file: &[u8], rows: usize, unordered: bool) -> Acceptance
+fn check_many_rows(file: &[u8], rows: usize, unordered: bool) -> Result<Accepted, FileRefusal>
     requires { HasRows file.now rows }
     ensures { Answered (rows_refusal (operand_by unordered) (fields_of file.now)) (netlist_of file.now) result }
 {
@@ -223,7 +204,7 @@ fn check_many_rows(file: &[u8], rows: usize, unordered: bool) -> Acceptance
 }
 
 // Questions 6 to 10 of all rows.
-fn check_rows(file: &[u8], rows: usize, unordered: bool) -> Acceptance
+fn check_rows(file: &[u8], rows: usize, unordered: bool) -> Result<Accepted, FileRefusal>
     requires { HasRows file.now rows }
     ensures { Answered (rows_refusal (operand_by unordered) (fields_of file.now)) (netlist_of file.now) result }
 {
@@ -248,30 +229,25 @@ fn count_rows(file: &[u8]) -> usize
 }
 
 // Gates may stand in any order if `unordered`.
-fn accept_by(file: &[u8], unordered: bool) -> Acceptance
+fn accept_by(file: &[u8], unordered: bool) -> Result<Accepted, FileRefusal>
     ensures { Answered (file_refusal_with (operand_by unordered) file.now) (netlist_of file.now) result }
 {
     if !length_right(file) {
-        return Acceptance::Refused(FileRefusal::Length);
+        return Err(FileRefusal::Length);
     }
-    let blocks = file.len() / 512;
-    match check_blocks(file, blocks) {
-        PartAnswer::Refused(refusal) => Acceptance::Refused(refusal),
-        PartAnswer::Passed => {
-            let rows = count_rows(file);
-            check_rows(file, rows, unordered)
-        }
-    }
+    check_blocks(file, file.len() / 512)?;
+    let rows = count_rows(file);
+    check_rows(file, rows, unordered)
 }
 
-pub fn accept(file: &[u8]) -> Acceptance
+pub fn accept(file: &[u8]) -> Result<Accepted, FileRefusal>
     ensures { Checked file.now result }
 {
     accept_by(file, false)
 }
 
 // The same of a file whose gates may stand in any order.
-pub fn accept_unordered(file: &[u8]) -> Acceptance
+pub fn accept_unordered(file: &[u8]) -> Result<Accepted, FileRefusal>
     ensures { CheckedUnordered file.now result }
 {
     accept_by(file, true)

@@ -1,11 +1,12 @@
 -- The laws of the block check: the head, one more byte after the rows, and the number of each answer.
 -- Assumes nothing.
-use Rattle.std.proofs.Common.{◌≡◌, ℕ, suc, ◌+◌, ◌-◌, ◌*◌, ◌%◌, ◌^◌, ◌<◌, ◌≤◌, Bool, true, false, not, ◌&&◌, eqb, leb, List, sym, ap, ◌∙◌, add-one, arith, eq-eqb, ne_eqb, eqb-true, leb-true}
+use Rattle.std.proofs.Common.{◌≡◌, ℕ, suc, ◌+◌, ◌-◌, ◌*◌, ◌%◌, ◌^◌, ◌<◌, ◌≤◌, Bool, true, false, not, ◌&&◌, eqb, leb, List, length, take, drop, get_or, get_or-take, get_or-drop, length-take, length-drop, refl, sym, ap, ◌∙◌, add-one, arith, eq-eqb, ne_eqb, true≢false, eqb-true, leb-true}
+use Rattle.std.specs.Prelude.{◌↔◌, All, IsTrue}
+use Rattle.std.proofs.lemmas.List.{get_or_default}
 use borrow.Author.Tests.{not-true, not-false}
-use Rattle.memory.specs.Lists.{all_below}
 use Rattle.memory.specs.Fields.{byte_at}
 use Rattle.memory.proofs.TestLaws.{cond-case, and-true, fails}
-use Rattle.memory.proofs.ListLaws.{all_below-at}
+use Rattle.memory.proofs.ListLaws.{all_below-at, all_below-of}
 use Rattle.netlist.specs.FileFormat.{last_mark, low_byte, high_byte, word_sum, right_sum}
 use Rattle.questions.specs.Questions.{sum_right, head_right, count_right, unused_right, block_questions}
 
@@ -31,25 +32,30 @@ module _ (k B : ℕ) where
 
 -- ---- the bytes after the last row
 
--- Byte i of them is zero, and so are the first n.
+-- Byte i of them is zero.
 abbrev unused_zero : List ℕ → ℕ → Bool
 unused_zero b i = eqb (byte_at b (4 + 8 * byte_at b 2 + i)) 0
 
-abbrev pub ZeroUpTo : List ℕ → ℕ → Type 0
-ZeroUpTo b n = all_below n (unused_zero b) ≡ true
+-- What a test of all of them, as a part of the block, says.
+module _ (b : List ℕ) (n : ℕ) (size : length b ≡ 512) (said : n ≡ byte_at b 2) (few : n ≤ 63) where
+  abbrev unused_part : List ℕ
+  unused_part = take (508 - (4 + 8 * n)) (drop (4 + 8 * n) b)
 
-module _ (b : List ℕ) (n i : ℕ) (said : n ≡ byte_at b 2) where
-  pub unused-more : ZeroUpTo b i → byte_at b (4 + 8 * n + i) ≡ 0 → ZeroUpTo b (i + 1)
-  unused-more z e = rw (add-one, z) (eq-eqb (byte_at b (4 + 8 * byte_at b 2 + i)) 0 (rw said at e))
+  part-long : length unused_part ≡ 504 - 8 * n
+  part-long = simp (length-take, length-drop) (omega arith)
 
-  pub unused-no : i < 504 - 8 * n → (byte_at b (4 + 8 * n + i) ≡ 0 → ⊥) → false ≡ unused_right b
-  unused-no h d =
-      sym (fails (unused_right b) (λ e.
-      let z : byte_at b (4 + 8 * byte_at b 2 + i) ≡ 0 = eqb-true (byte_at b (4 + 8 * byte_at b 2 + i)) 0 (all_below-at (504 - 8 * byte_at b 2) (unused_zero b) e i (omega arith)) in
-      d (rw said z)))
+  part-byte : (i d : ℕ) → i < 504 - 8 * n → get_or unused_part i d ≡ byte_at b (4 + 8 * n + i)
+  part-byte i d h = get_or_default unused_part i d 0 (omega (arith, part-long)) ∙ get_or-take (508 - (4 + 8 * n)) (drop (4 + 8 * n) b) i 0 (omega arith) ∙ get_or-drop (4 + 8 * n) b i 0
 
-  pub unused-all : ZeroUpTo b i → i ≤ 504 - 8 * byte_at b 2 → 504 - 8 * n ≤ i → true ≡ unused_right b
-  unused-all z l h = let e : i ≡ 504 - 8 * byte_at b 2 = omega arith in sym (ap (λ (m : ℕ). all_below m (unused_zero b)) (sym e) ∙ z)
+  all-zero : All (λ byte. byte ≡ 0) unused_part → unused_right b ≡ true
+  all-zero a = all_below-of (504 - 8 * byte_at b 2) (unused_zero b) (λ i h. eq-eqb (byte_at b (4 + 8 * byte_at b 2 + i)) 0 (rw (← said) (sym (part-byte i 0 (omega arith)) ∙ a i 0 (omega (arith, part-long)))))
+
+  zero-all : unused_right b ≡ true → All (λ byte. byte ≡ 0) unused_part
+  zero-all e = λ i d h. part-byte i d (omega (arith, part-long)) ∙ rw said (eqb-true (byte_at b (4 + 8 * byte_at b 2 + i)) 0 (all_below-at (504 - 8 * byte_at b 2) (unused_zero b) e i (omega (arith, part-long))))
+
+  pub unused-tested : (r : Bool) → IsTrue r ↔ All (λ byte. byte ≡ 0) unused_part → r ≡ unused_right b
+  unused-tested true t = sym (all-zero (t.0 refl))
+  unused-tested false t = sym (fails (unused_right b) (λ e. true≢false (sym (t.1 (zero-all e)))))
 
 -- ---- the answers
 

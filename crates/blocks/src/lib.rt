@@ -1,21 +1,18 @@
 // The blocks of a netlist file: questions 2 to 5, asked of one of them, and the writer.
 #![tactic(auto)]
 
-ghost use Rattle.std.specs.Prelude.{◌≡◌, ◌+◌, ◌*◌, ◌<◌, ◌≤◌, length};
+ghost use Rattle.std.specs.Prelude.{◌≡◌, ◌↔◌, ◌<◌, ◌≤◌, length, All, IsTrue};
 ghost use Rattle.memory.specs.Fields.{byte_at};
 ghost use Rattle.netlist.specs.Limits.{most_blocks};
 ghost use Rattle.netlist.specs.FileFormat.{last_mark};
 ghost use Rattle.questions.specs.Questions.{head_right, count_right, unused_right, block_questions};
 ghost use Rattle.blocks.specs.BlockCode.{block_number};
 
-use blockfile::both;
-
 pub mod writer;
 
-// A block is right, or the first question that it answers with no.
-#[derive(Clone, Copy)]
-pub enum BlockAnswer {
-    Right,
+// The first question that a block answers with no.
+#[derive(Clone, Copy, Debug, PartialEq, Eq)]
+pub enum BlockRefusal {
     Sum,
     Header,
     RowCount,
@@ -44,7 +41,7 @@ fn header_right(block: &[u8], number: usize, blocks: usize) -> bool
     let marked = block[0] == mark;
     let low_right = low == number % 256;
     let high_right = high == number / 256 % 256;
-    both(both(marked, low_right), high_right)
+    marked && low_right && high_right
 }
 
 fn row_count_right(block: &[u8], number: usize, blocks: usize) -> bool
@@ -54,10 +51,16 @@ fn row_count_right(block: &[u8], number: usize, blocks: usize) -> bool
     let count = block[2];
     let next = number + 1;
     if next == blocks {
-        both(1 <= count, count <= 63)
+        1 <= count && count <= 63
     } else {
         count == 63
     }
+}
+
+fn all_zero(bytes: &[u8]) -> bool
+    ensures { IsTrue result ↔ All (λ byte. byte ≡ 0) bytes.now }
+{
+    bytes.iter().all(|&byte| byte == 0)
 }
 
 // The bytes after the block's last row are zeros, up to its check.
@@ -65,21 +68,11 @@ fn unused_right(block: &[u8]) -> bool
     requires { (length block.now ≡ 512) × (byte_at block.now 2 ≤ 63) }
     ensures { result ≡ unused_right block.now }
 {
-    let used = 8 * memory::read_u8(block, 2) as usize;
-    let start = 4 + used;
-    let unused = 504 - used;
-    let mut i = 0;
-    'unused: while i < unused {
-        let offset = start + i;
-        if block[offset] != 0 {
-            return false;
-        }
-        i += 1;
-    }
-    true
+    let start = 4 + 8 * block[2] as usize;
+    all_zero(&block[start..508])
 }
 
-pub fn check_block(block: &[u8], number: usize, blocks: usize) -> BlockAnswer
+pub fn check_block(block: &[u8], number: usize, blocks: usize) -> Result<(), BlockRefusal>
     requires { (length block.now ≡ 512) × ((number < blocks) × (blocks ≤ most_blocks)) }
     ensures { block_number result ≡ block_questions blocks number block.now }
 {
@@ -88,16 +81,16 @@ pub fn check_block(block: &[u8], number: usize, blocks: usize) -> BlockAnswer
     let headed = header_right(block, number, blocks);
     let counted = row_count_right(block, number, blocks);
     if !summed {
-        return BlockAnswer::Sum;
+        return Err(BlockRefusal::Sum);
     }
     if !headed {
-        return BlockAnswer::Header;
+        return Err(BlockRefusal::Header);
     }
     if !counted {
-        return BlockAnswer::RowCount;
+        return Err(BlockRefusal::RowCount);
     }
     if !unused_right(block) {
-        return BlockAnswer::Unused;
+        return Err(BlockRefusal::Unused);
     }
-    BlockAnswer::Right
+    Ok(())
 }

@@ -13,12 +13,9 @@ pub fn word_sum(bytes: &[u8], words: usize) -> u32
     ensures { result ≡ word_sum bytes.now words % 2 ^ 32 }
 {
     let mut sum: u32 = 0;
-    let mut i = 0;
-    'adding: while i < words {
-        let offset = 4 * i;
-        let word = memory::read_u32(bytes, offset);
-        sum = std::num::wrapping_add_u32(sum, word);
-        i += 1;
+    for i in 0..words {
+        let word = memory::read_u32(bytes, 4 * i);
+        sum = sum.wrapping_add(word);
     }
     sum
 }
@@ -73,13 +70,11 @@ pub fn write_file(res: &mut [u8], rows: usize)
     ensures { (rs : List Row) → length rs ≡ rows → RowsStand rs res.old → res.new ≡ file_of rs ++ replicate (length res.old - 512 * blocks_for rows) 0 }
 {
     let blocks = (rows + 62) / 63;
-    let mut number = 0;
-    'writing: while number < blocks {
+    for number in 0..blocks {
         let start = 512 * number;
         let end = start + 512;
         let count = rows_in(rows, number);
         write_block(&mut res[start..end], blocks, number, count);
-        number += 1;
     }
     let size = 512 * blocks;
     memory::clear_from(res, size);

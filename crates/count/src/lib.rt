@@ -3,20 +3,12 @@
 
 ghost use Rattle.count.specs.CountOutcome.{Counted};
 
-use accept::{Acceptance, FileRefusal};
+use accept::FileRefusal;
 use blockfile::count::Counts;
 
-#[derive(Clone, Copy)]
-pub enum CountAnswer {
-    Counted(Counts),
-    Refused(FileRefusal),
-}
-
-pub fn count(file: &[u8]) -> CountAnswer
+pub fn count(file: &[u8]) -> Result<Counts, FileRefusal>
     ensures { Counted file.now result }
 {
-    match accept::accept(file) {
-        Acceptance::Accepted { rows: _, counts } => CountAnswer::Counted(counts),
-        Acceptance::Refused(refusal) => CountAnswer::Refused(refusal),
-    }
+    let accepted = accept::accept(file)?;
+    Ok(accepted.counts)
 }

@@ -12,11 +12,10 @@ use borrow.Author.Tests.{lt-ltb, le-ltb, ne_eqb}
 use Rattle.netlist.specs.FileFormat.{block_at, row_part, block_count}
 use Rattle.questions.specs.Questions.{Refusal, no_refusal, first_refusal, question, show_refusal}
 use Rattle.questions.proofs.QuestionLaws.{list-yes, list-no}
-use Rattle.blockfile.specs.declared.count.Counts as code
 use Rattle.accept.specs.Refusals.{number_of, place_of, refusal_in, Checked}
 use Rattle.accept.specs.declared.FileRefusal.{FileRefusal}
-use Rattle.accept.specs.declared.Acceptance.{Acceptance}
-use Rattle.accept.specs.declared.Acceptance.TheVariants.{Accepted, Refused}
+use Rattle.std.specs.Prelude.{Result, Ok, Err}
+use Rattle.accept.specs.declared.Accepted.{Accepted}
 use Rattle.accept.proofs.RefusalLaws.{number-positive, file-passes, file-stops}
 use Rattle.show.specs.ShowOutcome.{part_offset, Shown}
 
@@ -40,19 +39,19 @@ module _ (file : List ℕ) (at : ℕ × ℕ) (B : ℕ) where
     inside = ap (λ (x : ℕ). (at.0, x + at.1)) s;
   }
 
-  module _ (a : Acceptance) (checked : Checked file a) where
-    asked : (m : ℕ) (c : code.Counts) → a ≡ Accepted m c → show_refusal file B ≡ first_refusal (question 21 (ltb B (block_count file)) ∷ [])
+  module _ (a : Result Accepted FileRefusal) (checked : Checked file a) where
+    asked : (y : Accepted) → a ≡ Ok y → show_refusal file B ≡ first_refusal (question 21 (ltb B (block_count file)) ∷ [])
     unfolding show_refusal
-    asked m c e = file-passes file a checked m c e (question 21 (ltb B (block_count file)) ∷ [])
+    asked y e = file-passes file a checked y e (question 21 (ltb B (block_count file)) ∷ [])
 
-    pub block-shown : (n : ℕ) → n ≡ 504 → (m : ℕ) (c : code.Counts) → a ≡ Accepted m c → B < block_count file → Shown file at B (take n (drop (512 * B + 4) file)) (at.0, 512 * B + 4 + at.1) 0 0
-    block-shown n l m c e h =
-        shown_by no_refusal (take n (drop (512 * B + 4) file)) (512 * B + 4) (asked m c e ∙ list-yes 21 (ltb B (block_count file)) [] (lt-ltb B (block_count file) h)) (part-is file B n l (omega arith)) refl
+    pub block-shown : (n : ℕ) → n ≡ 504 → (y : Accepted) → a ≡ Ok y → B < block_count file → Shown file at B (take n (drop (512 * B + 4) file)) (at.0, 512 * B + 4 + at.1) 0 0
+    block-shown n l y e h =
+        shown_by no_refusal (take n (drop (512 * B + 4) file)) (512 * B + 4) (asked y e ∙ list-yes 21 (ltb B (block_count file)) [] (lt-ltb B (block_count file) h)) (part-is file B n l (omega arith)) refl
 
-    pub block-missing : (m : ℕ) (c : code.Counts) → a ≡ Accepted m c → block_count file ≤ B → Shown file at B [] (at.0, 0 + at.1) 21 0
-    block-missing m c e h = shown_by (record { number = 21; place = 0 }) [] 0 (asked m c e ∙ list-no 20 (ltb B (block_count file)) [] (le-ltb B (block_count file) h)) refl refl
+    pub block-missing : (y : Accepted) → a ≡ Ok y → block_count file ≤ B → Shown file at B [] (at.0, 0 + at.1) 21 0
+    block-missing y e h = shown_by (record { number = 21; place = 0 }) [] 0 (asked y e ∙ list-no 20 (ltb B (block_count file)) [] (le-ltb B (block_count file) h)) refl refl
 
-    pub file-refused : (r : FileRefusal) (n p : ℕ) → a ≡ Refused r → n ≡ number_of r → p ≡ place_of r → Shown file at B [] (at.0, 0 + at.1) n p
+    pub file-refused : (r : FileRefusal) (n p : ℕ) → a ≡ Err r → n ≡ number_of r → p ≡ place_of r → Shown file at B [] (at.0, 0 + at.1) n p
     unfolding show_refusal
     file-refused r n p e en ep =
         let q : show_refusal file B ≡ refusal_in r = file-stops file a checked (question 21 (ltb B (block_count file)) ∷ []) r e in

@@ -3,14 +3,14 @@
 
 ghost use Rattle.show.specs.ShowOutcome.{Shown};
 
-use accept::Acceptance;
+use questions::Numbered;
 
 // The row part of a block, in the caller's own file.
 pub fn show<'a>(file: &'a [u8], block: u32, number: &mut u32, place: &mut u32) -> &'a [u8]
     ensures { Shown file.now file.entry.ref_ptr block result.now result.ref_ptr number.new place.new }
 {
     match accept::accept(file) {
-        Acceptance::Accepted { rows: _, counts: _ } => {
+        Ok(_) => {
             let blocks = file.len() / 512;
             let index = block as usize;
             if index < blocks {
@@ -25,9 +25,9 @@ pub fn show<'a>(file: &'a [u8], block: u32, number: &mut u32, place: &mut u32) -
                 &file[0..0]
             }
         }
-        Acceptance::Refused(refusal) => {
-            *number = accept::number_of(refusal);
-            *place = accept::place_of(refusal);
+        Err(refusal) => {
+            *number = refusal.number();
+            *place = refusal.place();
             &file[0..0]
         }
     }

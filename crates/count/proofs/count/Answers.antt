@@ -1,10 +1,11 @@
 -- `count::count` answers the counts of an accepted file, or Check's refusal.
 -- Assumes nothing.
+use Rattle.accept.proofs.RefusalLaws.{handed-on}
 use Rattle.count.proofs.CountedLaws.{count-refused, count-answered}
 use Rattle.count.proofs.count.Goals as goal
 
-pub returns-in-Accepted : goal.returns-in-Accepted
-returns-in-Accepted c = search count-answered
+pub returns-in_err-accepted : goal.returns-in_err-accepted
+returns-in_err-accepted c = rw (handed-on c.from_residual.result c.from_residual.ensures.1) (search (count-refused, c.in_err-accepted.was))
 
-pub returns-in-Refused : goal.returns-in-Refused
-returns-in-Refused c = search count-refused
+pub returns : goal.returns
+returns c = search (count-answered, c.in_ok-accepted.was)

@@ -2,14 +2,14 @@ use Rattle.std.proofs.Common.{arith, length-drop, length-take, rules}
 use Rattle.blocks.proofs.WriterLaws.{blocks-none, blocks_more, file-written}
 use Rattle.blocks.proofs.writer.write_file.Goals as goal
 
-pub writing-init : goal.writing-init
-writing-init c = search (blocks-none, rules)
+pub loop-number-init : goal.loop-number-init
+loop-number-init c = search (blocks-none, rules)
 
 pub write_block-requires : goal.write_block-requires
 write_block-requires c = (simp (length-take, length-drop) (omega arith), (omega arith, (omega arith, omega arith)))
 
-pub writing-preserved : goal.writing-preserved
-writing-preserved c = (search rules, (search rules, search blocks_more))
+pub loop-number-preserved : goal.loop-number-preserved
+loop-number-preserved c = (search rules, search blocks_more)
 
 pub returns : goal.returns
 returns c = search file-written
