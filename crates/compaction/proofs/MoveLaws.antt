@@ -36,14 +36,6 @@ use Rattle.compaction.proofs.NumberLaws.{bit_le, slots_after, slots-numbered}
 pub row_moved : (f f' w : List ℕ) (i t : ℕ) (u v : RowFields) → u ≡ read_fields f i → v ≡ renumber_fields (renumber_in w slot_count) u → f' ≡ sets f (row_offset t) (field_bytes v) → f' ≡ move_row f w i t
 row_moved f f' w i t u v e q h = h ∙ ap (λ (x : RowFields). sets f (row_offset t) (field_bytes x)) (q ∙ ap (renumber_fields (renumber_in w slot_count)) e)
 
--- Row i is moved if it is marked in its slot s.
-module _ (f w : List ℕ) (i t s : ℕ) (e : s ≡ slot_at w i) where
-  pub kept-yes : (f' : List ℕ) → 2 ^ 15 ≤ s → f' ≡ move_row f w i t → RowKept f w i t f' (t + 1)
-  kept-yes f' h q = let m = le-leb (2 ^ 15) (slot_at w i) (omega arith) in record { bytes = q ∙ rw m; count = rw m }
-
-  pub kept-no : s < 2 ^ 15 → RowKept f w i t f t
-  kept-no h = let m = lt-leb (2 ^ 15) (slot_at w i) (omega arith) in record { bytes = rw m; count = rw m (omega arith) }
-
 -- Of the n rows in f₀ the first i are moved, t of them to the front; the later ones still stand.
 pub record Moving (f₀ f w : List ℕ) (n i t : ℕ) : Type 0 where
   pub low : t ≤ i

@@ -1,7 +1,7 @@
 -- Rows numbered, and the slots in the work memory.
 -- Assumes nothing.
 use Prim.Native.Nat.{ℕ, ◌+◌, ◌-◌, ◌*◌, ◌<◌, ◌≤◌, ◌/◌, ◌^◌}
-use mathlib.Core.Path.{◌≡◌, refl, sym, ap, ◌∙◌, subst}
+use mathlib.Core.Path.{◌≡◌, refl, sym, ap, ◌∙◌}
 use mathlib.Core.Bool.{Bool, true, false}
 use mathlib.Core.List.{List, ◌++◌}
 use native.Mathlib.Omega.{arith}
@@ -17,10 +17,9 @@ use Rattle.memory.specs.Slots.{slot_at, set_slot}
 use Rattle.memory.proofs.TestLaws.{last_or}
 use Rattle.memory.proofs.SlotLaws.{slot_same, slot-other}
 use Rattle.netlist.specs.Limits.{most_folded_rows, fold_work_bytes}
-use Rattle.abstraction.specs.Compaction.{is_marked, cone_of_influence, new_index}
+use Rattle.abstraction.specs.Compaction.{is_marked, new_index}
 use Rattle.abstraction.proofs.CompactionLaws.{index-none, index-suc, index-le}
-use Rattle.blockfile.specs.RowsStand.{held_rows}
-use Rattle.cone_search.specs.FoundRows.{HeldInside, mark_at, marks_in}
+use Rattle.cone_search.specs.FoundRows.{mark_at, marks_in}
 use Rattle.cone_search.proofs.MarkLaws.{marked-in}
 use Rattle.fold_memory.specs.WorkMap.{slots_start, slots_end}
 use Rattle.compaction.specs.Slots.{read_end, mark_bit, new_number, Numbered}
@@ -69,9 +68,6 @@ numbering-more w₀ w w' n i t r h few room long N er ew =
       after = λ j g. rw ew (slot-other w i v j (λ z. omega arith) ∙ N.after j (omega arith));
     }
 
-pub numbering-done : (w₀ w : List ℕ) (n i t : ℕ) → n ≤ i → Numbering w₀ w n i t → Numbered w n (marks_in w₀ n)
-numbering-done w₀ w n i t h N j l = N.before j (omega arith)
-
 -- A row's slot v as the code numbers it.
 module _ (w : List ℕ) (i t v : ℕ) (e : v ≡ slot_at w i) (h : v < 2 ^ 16) where
   bit : v / 2 ^ 15 ≡ mark_bit (mark_at w i)
@@ -79,13 +75,6 @@ module _ (w : List ℕ) (i t v : ℕ) (e : v ≡ slot_at w i) (h : v < 2 ^ 16) w
 
   pub number-next : t + v / 2 ^ 15 ≡ t + mark_bit (mark_at w i)
   number-next = ap (λ x. t + x) bit
-
-  pub row-numbered : (w' : List ℕ) → w' ≡ set_slot w i (t + 2 ^ 15 * (v / 2 ^ 15)) → w' ≡ set_slot w i (t + 2 ^ 15 * mark_bit (mark_at w i))
-  row-numbered w' q = q ∙ ap (λ x. set_slot w i (t + 2 ^ 15 * x)) bit
-
--- Where the cone is marked, the numbers are those of the cone.
-pub cone-numbered : (f w w' : List ℕ) (n : ℕ) → (HeldInside f n → marks_in w n ≡ cone_of_influence (held_rows f n)) → Numbered w' n (marks_in w n) → HeldInside f n → Numbered w' n (cone_of_influence (held_rows f n))
-cone-numbered f w w' n e N h = subst (Numbered w' n) (e h) N
 
 -- ---- the slots in the work memory
 

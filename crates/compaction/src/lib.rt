@@ -40,10 +40,8 @@ fn number_rows(slots: &mut [u8], rows: usize)
     ensures { Numbered slots.new rows (marks_in slots.old rows) }
 {
     let mut number = 0;
-    let mut row = 0;
-    'rows: while row < rows {
+    for row in 0..rows {
         number = number_row(slots, row, number);
-        row += 1;
     }
 }
 
@@ -89,10 +87,8 @@ fn move_rows(res: &mut [u8], slots: &[u8], rows: usize) -> usize
     ensures { MovedTo res.old slots.now rows rows res.new result }
 {
     let mut to = 0;
-    let mut row = 0;
-    'rows: while row < rows {
+    for row in 0..rows {
         to = keep_row(res, slots, row, to);
-        row += 1;
     }
     to
 }

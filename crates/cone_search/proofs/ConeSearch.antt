@@ -54,12 +54,6 @@ seeded-more f w w' n i t t' h S P = record {
         go true = get_or-set_same (marks_in w n) i true false (rw (tabulate-length n (mark_at w)) h)
         go false = marked-in w n i h ∙ S.after i h (omega arith)
 
-pub seeded-found : (f w : List ℕ) (n i t : ℕ) → Seeded f w n i t → Found w n t
-seeded-found f w n i t S = S.found
-
-pub seeded-all : (f w : List ℕ) (n i t : ℕ) → n ≤ i → Seeded f w n i t → (j : ℕ) → j < n → mark_at w j ≡ is_cone_root (held_row f j)
-seeded-all f w n i t h S j l = S.before j l (omega arith)
-
 -- ---- what they reach
 
 module _ (f : List ℕ) (n : ℕ) where
@@ -130,14 +124,8 @@ module _ (f : List ℕ) (n : ℕ) where
     pub visit-room : (w₀ : List ℕ) → 2 * n ≤ length w₀ → length w ≡ length w₀ → 2 * v + 2 ≤ length w
     visit-room w₀ l e = omega (arith, found-le w n t R.found)
 
-    pub visit-found : Found w n t
-    visit-found = R.found
-
     pub visit-less : n - (v + 1) < n - v
     visit-less = omega (arith, found-le w n t R.found)
-
-    pub visit-inside : (s : ℕ) → s ≡ slot_at w v → s % 2 ^ 15 < n
-    visit-inside s e = omega (arith, (R.found.marked v h).0)
 
     pub visit-next : (w' : List ℕ) (t' s : ℕ) → s ≡ slot_at w v → Pushed w n t (fanin_nodes (held_row f (s % 2 ^ 15))) w' t' → Reaching w' (v + 1) t'
     visit-next w' t' s e P = reaching-next w w' v t t' h R (subst (λ (x : ℕ). Pushed w n t (fanin_nodes (held_row f (x % 2 ^ 15))) w' t') e P)

@@ -1,6 +1,6 @@
 -- Rows marked and found.
 -- Assumes nothing.
-use Prim.Native.Nat.{ℕ, zero, suc, ◌+◌, ◌*◌, ◌<◌, ◌≤◌, ◌/◌, ◌%◌, ◌^◌}
+use Prim.Native.Nat.{ℕ, zero, suc, ◌+◌, ◌*◌, ◌<◌, ◌≤◌, ◌^◌}
 use mathlib.Core.Path.{◌≡◌, refl, sym, ap, ◌∙◌}
 use mathlib.Core.Logic.{◌≢◌}
 use mathlib.Core.Bool.{Bool, true, false, true≢false}
@@ -10,13 +10,11 @@ use native.Mathlib.Decide.{ℕ_discrete}
 use native.Mathlib.Numerals.{add-one}
 use lib.ListN.{length, set, length-set}
 use lib.Seq.{set_out, set-get_or, get_or-set_same, get_or-set_other, ext_get_or}
-use lib.Dec.{leb}
-use borrow.Author.Tests.{leb-true, leb-false, le-leb, lt-leb}
+use borrow.Author.Tests.{leb-true, le-leb, lt-leb}
 use Rattle.memory.specs.Lists.{tabulate, count_if}
-use Rattle.memory.specs.Slots.{slot_at, set_slot}
+use Rattle.memory.specs.Slots.{slot_at}
 use Rattle.memory.proofs.TestLaws.{last_or}
 use Rattle.memory.proofs.ListLaws.{tabulate-length, tabulate-at, count-last, count-le}
-use Rattle.memory.proofs.SlotLaws.{slot_same, slot-other}
 use Rattle.netlist.specs.Limits.{most_folded_rows}
 use Rattle.abstraction.specs.Compaction.{is_marked, mark_all}
 use Rattle.cone_search.specs.FoundRows.{mark_at, marks_in, found_at, RowMarked, RowListed, Found, Pushed}
@@ -27,41 +25,6 @@ mark-yes w j h = le-leb (2 ^ 15) (slot_at w j) h
 
 pub mark-no : (w : List ℕ) (j : ℕ) → slot_at w j < 2 ^ 15 → mark_at w j ≡ false
 mark-no w j h = lt-leb (2 ^ 15) (slot_at w j) h
-
--- ---- a row marked, a row found
-
-module _ (w w' : List ℕ) (j : ℕ) (room : 2 * j + 2 ≤ length w) where
-  pub marked-is : (v : ℕ) → v < 2 ^ 15 → v ≡ slot_at w j → w' ≡ set_slot w j (v + 2 ^ 15) → RowMarked w j w'
-  marked-is v h k e = rw e (
-      let s = slot_same w j (v + 2 ^ 15) room (omega arith) in
-      record {
-        is = mark-yes (set_slot w j (v + 2 ^ 15)) j (omega arith);
-        others = λ x d. ap (leb (2 ^ 15)) (slot-other w j (v + 2 ^ 15) x d);
-        founds = λ x. elim (ℕ_discrete x j) [
-          | yes q ↦ rw q (omega arith)
-          | no q ↦ ap (λ z. z % 2 ^ 15) (slot-other w j (v + 2 ^ 15) x q)
-        ];
-      })
-
-  pub listed-is : (s r : ℕ) → r < 2 ^ 15 → s ≡ slot_at w j → s < 2 ^ 16 → w' ≡ set_slot w j (s / 2 ^ 15 * 2 ^ 15 + r) → RowListed w j r w'
-  listed-is s r h e l q = rw q (
-      let v = s / 2 ^ 15 * 2 ^ 15 + r in
-      let is = slot_same w j v room (omega arith) in
-      record {
-        is = omega arith;
-        others = λ x d. ap (λ z. z % 2 ^ 15) (slot-other w j v x d);
-        marks = λ x. elim (ℕ_discrete x j) [
-          | yes p ↦ rw p (marks-same (slot_at (set_slot w j v) j) (slot_at w j) (omega arith))
-          | no p ↦ ap (leb (2 ^ 15)) (slot-other w j v x p)
-        ];
-      })
-    where
-      marks-same : (a b : ℕ) → a / 2 ^ 15 ≡ b / 2 ^ 15 → leb (2 ^ 15) a ≡ leb (2 ^ 15) b
-      marks-same a b d = go (leb (2 ^ 15) b) refl
-        where
-          go : (t : Bool) → leb (2 ^ 15) b ≡ t → leb (2 ^ 15) a ≡ t
-          go true f = le-leb (2 ^ 15) a (omega (arith, leb-true (2 ^ 15) b f))
-          go false f = lt-leb (2 ^ 15) a (omega (arith, leb-false (2 ^ 15) b f))
 
 -- ---- counts of marks
 

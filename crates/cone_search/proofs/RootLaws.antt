@@ -7,10 +7,10 @@ use mathlib.Core.List.{List, [], ◌∷◌}
 use native.Mathlib.Omega.{arith}
 use lib.ListN.{take}
 use lib.Dec.{eqb, ltb}
-use borrow.Author.Tests.{eq-eqb, ne_eqb, lt-ltb}
+use borrow.Author.Tests.{ne_eqb, lt-ltb}
 use Rattle.memory.specs.Fields.{byte_at, u16_at}
-use Rattle.netlist.specs.Rows.{RowFields, row_from_fields, decode_row, fanin_nodes}
-use Rattle.netlist.specs.FileFormat.{row_offset, read_fields}
+use Rattle.netlist.specs.Rows.{row_from_fields, fanin_nodes}
+use Rattle.netlist.specs.FileFormat.{row_offset}
 use Rattle.abstraction.specs.Compaction.{is_cone_root}
 use Rattle.blockfile.specs.RowsStand.{held_row}
 use Rattle.blockfile.specs.Renumbering.{literal_count}
@@ -28,12 +28,6 @@ root-test (suc (suc (suc (suc (suc zero))))) r a b c = refl
 root-test (suc (suc (suc (suc (suc (suc zero)))))) r a b c = refl
 root-test (suc (suc (suc (suc (suc (suc (suc k))))))) r a b c = rw (ne_eqb (suc (suc (suc (suc (suc (suc (suc k))))))) 0 (λ e. omega arith), lt-ltb 5 (suc (suc (suc (suc (suc (suc (suc k))))))) (omega arith))
 
-pub root-constant : (k : ℕ) → k ≡ 0 → true ≡ is_cone_root (row_from_fields k 0 0 0 0)
-root-constant k e = rw (root-test k 0 0 0 0, eq-eqb k 0 e)
-
-pub root-output : (k : ℕ) → (k ≡ 0 → ⊥) → ltb 5 k ≡ is_cone_root (row_from_fields k 0 0 0 0)
-root-output k d = rw (root-test k 0 0 0 0, ne_eqb k 0 d)
-
 -- The rows that a row of these fields names, found one by one.
 pub found_of : (w w' : List ℕ) (n t t' k r a b c count j : ℕ) → count ≡ literal_count k → count ≡ j → Pushed w n t (take j (a / 2 ∷ b / 2 ∷ c / 2 ∷ [])) w' t' → Pushed w n t (fanin_nodes (row_from_fields k r a b c)) w' t'
 found_of w w' n t t' k r a b c count j e q P =
@@ -44,10 +38,6 @@ pub found-three : (w w₁ w₂ w₃ : List ℕ) (n t t₁ t₂ t₃ k r a b c co
 found-three w w₁ w₂ w₃ n t t₁ t₂ t₃ k r a b c count e l n0 n1 n2 P Q R =
     found_of w w₃ n t t₃ k r a b c count 3 e (omega arith) (pushed-cons w w₁ w₃ n t t₁ t₃ (a / 2) (b / 2 ∷ c / 2 ∷ []) P (pushed-cons w₁ w₂ w₃ n t₁ t₂ t₃ (b / 2) (c / 2 ∷ []) Q R))
 
--- Row i by its fields.
-pub found-read : (f w w' : List ℕ) (n t t' i : ℕ) (u : RowFields) → u ≡ read_fields f i → Pushed w n t (fanin_nodes (decode_row u)) w' t' → Pushed w n t (fanin_nodes (held_row f i)) w' t'
-found-read f w w' n t t' i u e P = subst (λ (x : RowFields). Pushed w n t (fanin_nodes (decode_row x)) w' t') e P
-
 -- Row i by its kind, a root or none.
 module _ (f w w' : List ℕ) (n t t' i o : ℕ) (b : Bool) (eo : o ≡ row_offset i) (eb : b ≡ is_cone_root (row_from_fields (byte_at f o) 0 0 0 0)) where
   root_is : is_cone_root (held_row f i) ≡ b
@@ -55,9 +45,6 @@ module _ (f w w' : List ℕ) (n t t' i o : ℕ) (b : Bool) (eo : o ≡ row_offse
       let p = row_offset i in
       let k = byte_at f p in
       sym (eb ∙ rw eo (root-test k 0 0 0 0 ∙ sym (root-test k (byte_at f (p + 1)) (u16_at f (p + 2)) (u16_at f (p + 4)) (u16_at f (p + 6)))))
-
-  pub root-found : b ≡ true → Pushed w n t (i ∷ []) w' t' → Pushed w n t (cond (is_cone_root (held_row f i)) (i ∷ []) []) w' t'
-  root-found e P = rw (root_is, e) P
 
   pub root_none : b ≡ false → Found w n t → Pushed w n t (cond (is_cone_root (held_row f i)) (i ∷ []) []) w t
   root_none e F = rw (root_is, e) (pushed_none w n t F)

@@ -27,7 +27,7 @@ pub const MARK: usize = 32768;
 fn is_root(kind: u8) -> bool
     ensures { result ≡ is_cone_root (row_from_fields kind 0 0 0 0) }
 {
-    if kind == 0 { true } else { 5 < kind }
+    kind == 0 || 5 < kind
 }
 
 // A row that has no mark is marked; the rest of its slot stays.
@@ -141,10 +141,8 @@ fn find_roots(res: &[u8], slots: &mut [u8], rows: usize) -> usize
     ensures roots_marked { RootsMarked res.now slots.new rows }
 {
     let mut found = 0;
-    let mut row = 0;
-    'rows: while row < rows {
+    for row in 0..rows {
         found = find_root(res, slots, row, rows, found);
-        row += 1;
     }
     found
 }

@@ -1,12 +1,13 @@
-use borrow.Author.Rules.{rules}
+-- The steps of the loop, by the laws of moving.
+-- Assumes nothing.
 use Rattle.compaction.proofs.MoveLaws.{moving-none, moving-next, moving-done}
 use Rattle.compaction.proofs.move_rows.Goals as goal
 
-pub rows-init : goal.rows-init
-rows-init c = search (moving-none, rules)
+pub loop-row-init : goal.loop-row-init
+loop-row-init c = search moving-none
 
-pub rows-preserved : goal.rows-preserved
-rows-preserved c = (search rules, (search rules, search moving-next))
+pub loop-row-preserved : goal.loop-row-preserved
+loop-row-preserved c = search moving-next
 
 pub returns : goal.returns
 returns c = search moving-done
