@@ -91,11 +91,8 @@ fn put_entry(rt: &impl Streams, buffer: &mut [u8], out: Out, entry: Entry) -> Ou
 // The lines of the first `used` entries.
 pub fn put_entries(rt: &impl Streams, buffer: &mut [u8], out: Out, work: &[u8], used: u32) -> Out {
     let mut now = out;
-    let mut index: u32 = 0;
-    'entries: while index < used {
-        let entry = entry_of(work, index);
-        now = put_entry(rt, buffer, now, entry);
-        index += 1;
+    for index in 0..used {
+        now = put_entry(rt, buffer, now, entry_of(work, index));
     }
     now
 }

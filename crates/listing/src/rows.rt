@@ -21,8 +21,7 @@ pub fn file_room() -> [u8; 262145]
 pub fn last_block(file: &[u8]) -> usize
     ensures { 512 * result ≤ length file.now }
 {
-    let blocks = file.len() / 512;
-    if blocks == 0 { 0 } else { blocks - 1 }
+    (file.len() / 512).saturating_sub(1)
 }
 
 // How many rows it has, if its blocks are right: 63 in each block but the last.
@@ -62,10 +61,8 @@ pub fn put_row(rt: &impl Streams, buffer: &mut [u8], out: Out, file: &[u8], row:
 // The lines of the first `rows` rows.
 pub fn put_rows(rt: &impl Streams, buffer: &mut [u8], out: Out, file: &[u8], rows: usize) -> Out {
     let mut now = out;
-    let mut row = 0;
-    'rows: while row < rows {
+    for row in 0..rows {
         now = put_row(rt, buffer, now, file, row);
-        row += 1;
     }
     now
 }
