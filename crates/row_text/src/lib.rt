@@ -14,7 +14,7 @@ pub const LARGE: u32 = 65536;
 
 // What is wrong with a line; of a word that is no number, where in the line it begins.
 #[derive(Clone, Copy)]
-pub enum Wrong {
+pub enum LineRefusal {
     Word(usize),
     Count(usize),
     Order,
@@ -24,86 +24,67 @@ pub enum Wrong {
     Rows,
 }
 
-// What a line says.
+// The first wrong line, counted from 1, where it begins, how many rows come before it, and what is wrong with it.
 #[derive(Clone, Copy)]
-enum Line {
-    Nothing,
-    Row,
-    Wrong(Wrong),
-}
-
-// How many rows the text has; or the first wrong line, counted from 1, where it begins, and how many rows come before it.
-#[derive(Clone, Copy)]
-pub enum Text {
-    Rows(usize),
-    Wrong {
-        line: usize,
-        at: usize,
-        rows: usize,
-        wrong: Wrong,
-    },
+pub struct TextRefusal {
+    pub line: usize,
+    pub at: usize,
+    pub rows: usize,
+    pub wrong: LineRefusal,
 }
 
 // ---- a line
 
-// How many words a line has up to here, whether its last byte is part of one, and whether all are numbers; and where the last one begins, or the first that is no number.
+// How many words a line has up to here, whether its last byte is part of one, and where the last one begins; and where the first begins that is no number.
 #[derive(Clone, Copy)]
 struct Words {
     count: usize,
     inside: bool,
-    right: bool,
     start: usize,
+    wrong: Option<usize>,
 }
 
 // One digit more of the number in this slot, or the first one.
 fn put_digit(numbers: &mut [u32], slot: usize, more: bool, digit: u8) {
     if slot < numbers.len() {
-        let value = numbers[slot];
-        let begun = if more { value } else { 0 };
+        let begun = if more { numbers[slot] } else { 0 };
         numbers[slot] = text::numbers::with_digit(begun, digit, LARGE);
     }
 }
 
-// A word begins at `i`.
-fn begin_word(words: Words, i: usize) -> Words {
-    let count = std::num::wrapping_add_usize(words.count, 1);
-    let start = if words.right { i } else { words.start };
-    Words {
-        count: count,
-        inside: true,
-        right: words.right,
-        start: start,
-    }
-}
-
-// The byte at `i` is part of a word.
+// The byte at `i` is part of a word: of the last one, or of one that begins there.
 fn in_word(words: Words, i: usize) -> Words {
     if words.inside {
-        words
-    } else {
-        begin_word(words, i)
+        return words;
+    }
+    Words {
+        count: words.count.wrapping_add(1),
+        inside: true,
+        start: i,
+        ..words
     }
 }
 
 // A digit goes on with a word, or begins one.
 fn read_digit(numbers: &mut [u32], words: Words, i: usize, digit: u8) -> Words {
-    let more = words.inside;
     let now = in_word(words, i);
-    let slot = std::num::wrapping_sub_usize(now.count, 1);
-    put_digit(numbers, slot, more, digit);
+    let slot = now.count.wrapping_sub(1);
+    put_digit(numbers, slot, words.inside, digit);
     now
 }
 
 // A byte that is no digit: a blank, or part of a word that is no number.
 fn read_other(words: Words, i: usize, byte: u8) -> Words {
-    let blank = is_blank(byte);
-    let now = if blank { words } else { in_word(words, i) };
-    let right = if blank { now.right } else { false };
+    if is_blank(byte) {
+        return Words {
+            inside: false,
+            ..words
+        };
+    }
+    let now = in_word(words, i);
     Words {
-        count: now.count,
-        inside: !blank,
-        right: right,
-        start: now.start,
+        wrong: now.wrong.or(Some(now.start)),
+        ..now
     }
 }
 
@@ -120,91 +101,69 @@ fn read_words(line: &[u8], numbers: &mut [u32]) -> Words {
     let mut words = Words {
         count: 0,
         inside: false,
-        right: true,
         start: 0,
+        wrong: None,
     };
-    let mut i = 0;
-    'bytes: while i < line.len() {
-        words = read_byte(numbers, words, i, line[i]);
-        i += 1;
+    for (i, byte) in line.iter().enumerate() {
+        words = read_byte(numbers, words, i, *byte);
     }
     words
 }
 
-// The first byte that is no blank; # if there is none.
-fn first_byte(line: &[u8]) -> u8 {
-    let mut i = 0;
-    'bytes: while i < line.len() {
-        let byte = line[i];
-        if !is_blank(byte) {
-            return byte;
-        }
-        i += 1;
-    }
-    b'#'
+// Whether a line says nothing: it is blank, but for a remark.
+fn is_silent(line: &[u8]) -> bool {
+    let first = line.iter().find(|byte| !is_blank(**byte));
+    matches!(first, None | Some(b'#'))
 }
 
 // The word at the start of a text: what comes before a blank or a remark.
-pub fn word_of<'a>(text: &'a [u8]) -> &'a [u8] {
-    let mut end = 0;
-    'bytes: while end < text.len() {
-        let byte = text[end];
-        if is_blank(byte) {
-            return &text[0..end];
-        }
-        if byte == b'#' {
-            return &text[0..end];
-        }
-        end += 1;
+pub fn word_of(text: &[u8]) -> &[u8] {
+    let end = text.iter().position(|byte| is_blank(*byte) || *byte == b'#');
+    match end {
+        Some(end) => &text[..end],
+        None => text,
     }
-    text
 }
 
 // Whether a, b and c have 16 bits.
 fn fields_fit(numbers: &[u32]) -> bool {
-    if LARGE <= number_at(numbers, 3) {
-        return false;
-    }
-    if LARGE <= number_at(numbers, 4) {
-        return false;
-    }
-    number_at(numbers, 5) < LARGE
+    number_at(numbers, 3) < LARGE && number_at(numbers, 4) < LARGE && number_at(numbers, 5) < LARGE
 }
 
 // Whether six numbers are the next row.
-fn row_line(numbers: &[u32], rows: usize) -> Line {
+fn row_line(numbers: &[u32], rows: usize) -> Result<(), LineRefusal> {
     if MOST_ROWS <= rows {
-        return Line::Wrong(Wrong::Rows);
+        return Err(LineRefusal::Rows);
     }
     if number_at(numbers, 0) as usize != rows {
-        return Line::Wrong(Wrong::Order);
+        return Err(LineRefusal::Order);
     }
     if 255 < number_at(numbers, 1) {
-        return Line::Wrong(Wrong::Kind);
+        return Err(LineRefusal::Kind);
     }
     if 255 < number_at(numbers, 2) {
-        return Line::Wrong(Wrong::Reset);
+        return Err(LineRefusal::Reset);
     }
-    if fields_fit(numbers) {
-        Line::Row
-    } else {
-        Line::Wrong(Wrong::Field)
+    if !fields_fit(numbers) {
+        return Err(LineRefusal::Field);
     }
+    Ok(())
 }
 
-// What a line says after `rows` rows, and its numbers.
-fn read_line(line: &[u8], numbers: &mut [u32], rows: usize) -> Line {
-    if first_byte(line) == b'#' {
-        return Line::Nothing;
+// Whether a line says a row, after `rows` rows, and its numbers.
+fn read_line(line: &[u8], numbers: &mut [u32], rows: usize) -> Result<bool, LineRefusal> {
+    if is_silent(line) {
+        return Ok(false);
     }
     let words = read_words(line, numbers);
-    if !words.right {
-        return Line::Wrong(Wrong::Word(words.start));
+    if let Some(start) = words.wrong {
+        return Err(LineRefusal::Word(start));
     }
     if words.count != 6 {
-        return Line::Wrong(Wrong::Count(words.count));
+        return Err(LineRefusal::Count(words.count));
     }
-    row_line(numbers, rows)
+    row_line(numbers, rows)?;
+    Ok(true)
 }
 
 // ---- a row
@@ -231,11 +190,11 @@ fn fields_in(numbers: &[u32]) -> Fields
     let b = low_field(number_at(numbers, 4));
     let c = low_field(number_at(numbers, 5));
     Fields {
-        kind: kind,
-        reset: reset,
-        a: a,
-        b: b,
-        c: c,
+        kind,
+        reset,
+        a,
+        b,
+        c,
     }
 }
 
@@ -252,60 +211,59 @@ fn put_fields(res: &mut [u8], row: usize, numbers: &[u32]) {
 
 // ---- the text
 
-// A line's row is put where it stands in the file; a remark at the line's end is not read.
-fn take_line(line: &[u8], numbers: &mut [u32], rows: usize, res: &mut [u8]) -> Line {
+// A line's row is put where it stands in the file, and whether it says one; a remark at the line's end is not read.
+fn take_line(
+    line: &[u8],
+    numbers: &mut [u32],
+    rows: usize,
+    res: &mut [u8],
+) -> Result<bool, LineRefusal> {
     let end = find(line, 0, b'#');
-    let said = read_line(&line[0..end], numbers, rows);
-    if let Line::Row = said {
+    let row = read_line(&line[..end], numbers, rows)?;
+    if row {
         put_fields(res, rows, numbers);
     }
-    said
+    Ok(row)
 }
 
-// How many rows a line has.
-fn rows_in(line: Line) -> usize {
-    match line {
-        Line::Row => 1,
-        _ => 0,
-    }
-}
-
-// All lines, their rows put where they stand in the file; or the first wrong line, its numbers as far as they were read.
-pub fn read_text(text: &[u8], numbers: &mut [u32], res: &mut [u8]) -> Text {
-    let mut line = 0;
-    let mut rows = 0;
+// How many rows the text has, put where they stand in the file; or the first wrong line, its numbers as far as they were read.
+pub fn read_text(text: &[u8], numbers: &mut [u32], res: &mut [u8]) -> Result<usize, TextRefusal> {
+    let mut line: usize = 0;
+    let mut rows: usize = 0;
     let mut at = 0;
-    'lines: while at < text.len() {
-        line = std::num::wrapping_add_usize(line, 1);
+    while at < text.len() {
+        line = line.wrapping_add(1);
         let end = find(text, at, b'\n');
-        let said = take_line(&text[at..end], numbers, rows, res);
-        if let Line::Wrong(wrong) = said {
-            return Text::Wrong {
-                line: line,
-                at: at,
-                rows: rows,
-                wrong: wrong,
-            };
+        match take_line(&text[at..end], numbers, rows, res) {
+            Ok(true) => rows = rows.wrapping_add(1),
+            Ok(false) => {}
+            Err(wrong) => {
+                return Err(TextRefusal {
+                    line,
+                    at,
+                    rows,
+                    wrong,
+                });
+            }
         }
-        rows = std::num::wrapping_add_usize(rows, rows_in(said));
         at = end + 1;
     }
-    Text::Rows(rows)
+    Ok(rows)
 }
 
 // The line of a row, counted from 1, in a text whose lines are right.
 pub fn line_of(text: &[u8], row: usize) -> usize {
-    let mut line = 0;
-    let mut rows = 0;
+    let mut line: usize = 0;
+    let mut rows: usize = 0;
     let mut at = 0;
-    'lines: while at < text.len() {
-        line = std::num::wrapping_add_usize(line, 1);
+    while at < text.len() {
+        line = line.wrapping_add(1);
         let end = find(text, at, b'\n');
-        if first_byte(&text[at..end]) != b'#' {
+        if !is_silent(&text[at..end]) {
             if rows == row {
                 return line;
             }
-            rows = std::num::wrapping_add_usize(rows, 1);
+            rows = rows.wrapping_add(1);
         }
         at = end + 1;
     }

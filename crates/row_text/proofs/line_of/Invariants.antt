@@ -1,10 +1,7 @@
--- `row_text::line_of` is safe and ends. The measure is what is left of the text.
+-- `row_text::line_of` ends. The measure is what is left of the text.
 -- Assumes nothing.
 use Rattle.std.proofs.Common.{◌-◌, length}
 use Rattle.row_text.proofs.line_of.Given as goal
 
-abbrev pub invariant-lines : goal.invariant-lines
-invariant-lines l = Unit {0}
-
-abbrev pub decreases-lines : goal.decreases-lines
-decreases-lines l = length l.text - l.at
+abbrev pub decreases-loop-at : goal.decreases-loop-at
+decreases-loop-at l = length l.text - l.at
