@@ -8,15 +8,14 @@ mod lines;
 mod names;
 mod words;
 
-use aiger_lines::{Headed, Header, Section};
+use aiger_lines::{Header, Section};
 use lines::{header_cause, line_fault};
 use names::name_fault;
 pub use words::header_number;
 
-// What stands where a number should; all but the first are none. LastSpace: the line ends behind a space.
+// What stands where a number should. LastSpace: the line ends behind a space.
 #[derive(Clone, Copy)]
 pub enum Word {
-    Number,
     End,
     LineFeed,
     LastSpace,
@@ -28,19 +27,22 @@ pub enum Word {
     Other,
 }
 
-// What is wrong. Nothing: no fault was found.
+// A word that is no number, and its bytes.
+#[derive(Clone, Copy)]
+pub struct NoNumber {
+    pub word: Word,
+    pub from: usize,
+    pub end: usize,
+}
+
+// What is wrong.
 #[derive(Clone, Copy)]
 pub enum Cause {
-    Nothing,
     // The text does not open with "aag ", or opens as the binary format does.
     Opening,
     Binary,
-    // A word that is no number, and its bytes.
-    NoNumber {
-        word: Word,
-        from: usize,
-        end: usize,
-    },
+    // A word that is no number.
+    NoNumber(NoNumber),
     // The header has not five numbers; it counts no output; the text ends before a line that it counts, and this is the last of them.
     Header {
         count: usize,
@@ -82,46 +84,44 @@ pub struct Fault {
 // Counted line `k` is line k + 2 of the text.
 fn fault_at(k: usize, cause: Cause) -> Fault {
     Fault {
-        line: std::num::wrapping_add_usize(k, 2),
-        cause: cause,
-    }
-}
-
-fn fault_of_header(cause: Cause) -> Fault {
-    Fault {
-        line: 1,
-        cause: cause,
+        line: k.wrapping_add(2),
+        cause,
     }
 }
 
 // What is wrong with a text whose header is read.
-fn counted_fault(text: &[u8], h: Header, from: usize, work: &mut [u8]) -> Fault
+fn counted_fault(text: &[u8], h: Header, from: usize, work: &mut [u8]) -> Option<Fault>
     requires { FewHeader h × (from ≤ length text.now) }
 {
     if h.outputs == 0 {
-        return fault_of_header(Cause::NoOutput);
+        return Some(Fault {
+            line: 1,
+            cause: Cause::NoOutput,
+        });
     }
     let first = line_fault(text, h, from);
-    let cause = first.cause;
-    match cause {
-        Cause::Nothing => name_fault(text, h, from, work),
-        _ => first,
+    if first.is_some() {
+        return first;
     }
+    name_fault(text, h, from, work)
 }
 
-// What is wrong with the text, and where. Names are asked for only if work has 49,152 bytes, or more.
-pub fn find_fault(text: &[u8], work: &mut [u8]) -> Fault {
+// What is wrong with the text, and where, if a fault is found. Names are asked for only if work has 49,152 bytes, or more.
+pub fn find_fault(text: &[u8], work: &mut [u8]) -> Option<Fault> {
     match aiger_lines::read_header(text) {
-        Headed::Other => fault_of_header(header_cause(text)),
-        Headed::Is(h, from) => counted_fault(text, h, from, work),
+        Some((h, from)) => counted_fault(text, h, from, work),
+        None => Some(Fault {
+            line: 1,
+            cause: header_cause(text),
+        }),
     }
 }
 
 // How many rows the header counts, with the constant; 0 if it is not read.
 pub fn count_rows(text: &[u8]) -> usize {
     match aiger_lines::read_header(text) {
-        Headed::Other => 0,
-        Headed::Is(h, _) => std::num::wrapping_add_usize(aiger_lines::line_count(h), 1),
+        Some((h, _)) => aiger_lines::line_count(h).wrapping_add(1),
+        None => 0,
     }
 }
 
@@ -138,33 +138,22 @@ fn line_start(text: &[u8], from: usize, k: usize) -> usize
     ensures { result ≤ length text.now }
 {
     let mut at = from;
-    let mut i = 0;
-    'lines: while i < k {
-        let l = aiger_lines::read_line(text, at);
-        if !l.right {
-            return at;
+    for _ in 0..k {
+        match aiger_lines::read_line(text, at) {
+            Some(l) => at = l.next,
+            None => return at,
         }
-        at = l.next;
-        i += 1;
     }
     at
 }
 
-// The gate that is this row before sorting, in a text that is refused with 22; zeros if the header is not read.
-pub fn find_gate(text: &[u8], row: usize) -> Gate {
-    match aiger_lines::read_header(text) {
-        Headed::Other => Gate {
-            line: 0,
-            literal: 0,
-        },
-        Headed::Is(h, from) => {
-            let k = std::num::wrapping_add_usize(std::num::wrapping_sub_usize(row, 1), h.outputs);
-            let at = line_start(text, from, k);
-            let l = aiger_lines::read_line(text, at);
-            Gate {
-                line: std::num::wrapping_add_usize(k, 2),
-                literal: l.first,
-            }
-        }
-    }
+// The gate that is this row before sorting, in a text that is refused with 22.
+pub fn find_gate(text: &[u8], row: usize) -> Option<Gate> {
+    let (h, from) = aiger_lines::read_header(text)?;
+    let k = row.wrapping_sub(1).wrapping_add(h.outputs);
+    let l = aiger_lines::read_line(text, line_start(text, from, k))?;
+    Some(Gate {
+        line: k.wrapping_add(2),
+        literal: l.first,
+    })
 }

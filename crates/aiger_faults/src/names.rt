@@ -31,39 +31,23 @@ enum Task {
     SeekUse,
 }
 
-// How many names the tree has; whether the walk ends before this line, and for which literal: 0 if the tree is full.
+// How a walk goes on behind a name: to the next one, or it ends before this line, as the tree is full, or for this literal.
+#[derive(Clone, Copy)]
+enum Step {
+    On,
+    Full,
+    Found(u32),
+}
+
+// How many names the tree has, and how the walk goes on.
 #[derive(Clone, Copy)]
 struct Names {
     count: usize,
-    ends: bool,
-    literal: u32,
-}
-
-fn go_on(count: usize) -> Names
-    ensures { result.count ≡ count }
-{
-    Names {
-        count: count,
-        ends: false,
-        literal: 0,
-    }
-}
-
-fn end_for(count: usize, literal: u32) -> Names
-    ensures { result.count ≡ count }
-{
-    Names {
-        count: count,
-        ends: true,
-        literal: literal,
-    }
+    step: Step,
 }
 
 fn asks_uses(task: Task) -> bool {
-    match task {
-        Task::AddUses | Task::SeekUse => true,
-        _ => false,
-    }
+    matches!(task, Task::AddUses | Task::SeekUse)
 }
 
 // The first literal of a line that is a use or else a definition, as it is asked, and the second one; 0 if there is none.
@@ -88,31 +72,28 @@ fn add_name(work: &mut [u8], marks: &mut [u8], count: usize, variable: u32) -> N
     ensures { TreeInside work.new result.count }
 {
     if MOST_NAMES <= count {
-        return end_for(count, 0);
+        return Names {
+            count,
+            step: Step::Full,
+        };
     }
     put(marks, count, 0);
     name_tree::add_entry(work, 0, count, variable);
-    let more = count + 1;
-    go_on(more)
+    Names {
+        count: count + 1,
+        step: Step::On,
+    }
 }
 
 // A literal whose variable is this entry of the tree.
-fn take_known(task: Task, marks: &mut [u8], count: usize, entry: usize, literal: u32) -> Names
-    ensures { result.count ≡ count }
-{
+fn take_known(task: Task, marks: &mut [u8], entry: usize, literal: u32) -> Step {
     match task {
-        Task::AddDefinitions | Task::SeekDefinition => end_for(count, literal),
-        Task::AddUses => go_on(count),
+        Task::AddDefinitions | Task::SeekDefinition => Step::Found(literal),
+        Task::SeekUse if get(marks, entry) == 0 => Step::Found(literal),
+        Task::AddUses | Task::SeekUse => Step::On,
         Task::MarkDefinitions => {
             put(marks, entry, 1);
-            go_on(count)
-        }
-        Task::SeekUse => {
-            if get(marks, entry) == 0 {
-                end_for(count, literal)
-            } else {
-                go_on(count)
-            }
+            Step::On
         }
     }
 }
@@ -123,16 +104,25 @@ fn take_name(task: Task, work: &mut [u8], marks: &mut [u8], count: usize, litera
     ensures { TreeInside work.new result.count }
 {
     if literal < 2 {
-        return go_on(count);
+        return Names {
+            count,
+            step: Step::On,
+        };
     }
     let variable = literal / 2;
     let entry = name_tree::find_entry(work, 0, count, variable);
     if entry < count {
-        return take_known(task, marks, count, entry, literal);
+        return Names {
+            count,
+            step: take_known(task, marks, entry, literal),
+        };
     }
     match task {
         Task::AddDefinitions | Task::AddUses => add_name(work, marks, count, variable),
-        _ => go_on(count),
+        _ => Names {
+            count,
+            step: Step::On,
+        },
     }
 }
 
@@ -151,20 +141,27 @@ fn take_line(
     let uses = asks_uses(task);
     let first = first_asked(uses, section, l);
     let second = second_asked(uses, section, l);
-    let taken = take_name(task, &mut *work, &mut *marks, count, first);
-    if taken.ends {
-        return taken;
+    let taken = take_name(task, work, marks, count, first);
+    match taken.step {
+        Step::On => take_name(task, work, marks, taken.count, second),
+        _ => taken,
     }
-    take_name(task, work, marks, taken.count, second)
 }
 
-// A walk is before counted line `k`, which begins at `at`, with so many names in the tree; it has ended there for the literal, if that is not 0.
+// A literal that is sought, on counted line `k`.
+#[derive(Clone, Copy)]
+struct Name {
+    k: usize,
+    literal: u32,
+}
+
+// A walk is before counted line `k`, which begins at `at`, with so many names in the tree; what it has ended for there, if it has found a name.
 #[derive(Clone, Copy)]
 struct Walk {
     k: usize,
     at: usize,
     count: usize,
-    literal: u32,
+    found: Option<Name>,
 }
 
 // Walks on to line `limit`, or to the one before which the walk ends.
@@ -180,30 +177,35 @@ fn walk_lines(
     requires { TreeInside work.old start.count × (start.at ≤ length text.now) }
     ensures { TreeInside work.new result.count × (result.at ≤ length text.now) }
 {
-    let mut k = start.k;
     let mut at = start.at;
     let mut count = start.count;
-    'lines: while k < limit {
-        let l = aiger_lines::read_line(text, at);
+    for k in start.k..limit {
+        let Some(l) = aiger_lines::read_line(text, at) else {
+            break;
+        };
         let section = aiger_lines::section_of(h, k);
-        let taken = take_line(task, section, l, &mut *work, &mut *marks, count);
+        let taken = take_line(task, section, l, work, marks, count);
         count = taken.count;
-        if taken.ends {
-            return Walk {
-                k: k,
-                at: at,
-                count: count,
-                literal: taken.literal,
-            };
-        }
-        at = l.next;
-        k += 1;
+        let found = match taken.step {
+            Step::On => {
+                at = l.next;
+                continue;
+            }
+            Step::Full => None,
+            Step::Found(literal) => Some(Name { k, literal }),
+        };
+        return Walk {
+            k,
+            at,
+            count,
+            found,
+        };
     }
     Walk {
-        k: k,
-        at: at,
-        count: count,
-        literal: 0,
+        k: limit,
+        at,
+        count,
+        found: None,
     }
 }
 
@@ -222,10 +224,10 @@ fn fill_tree(
     ensures { TreeInside work.new result.count × (result.at ≤ length text.now) }
 {
     let start = Walk {
-        k: k,
-        at: at,
+        k,
+        at,
         count: 0,
-        literal: 0,
+        found: None,
     };
     walk_lines(task, text, h, work, marks, start, limit)
 }
@@ -239,13 +241,12 @@ enum Sought {
     Undefined,
 }
 
-// Where the next window begins; and a line that was found, with its literal, which is 0 if there is none.
+// Where the next window begins; and what was found, if anything.
 #[derive(Clone, Copy)]
 struct Window {
     k: usize,
     at: usize,
-    found: usize,
-    literal: u32,
+    found: Option<Name>,
 }
 
 // The definitions from line `k` on, as many as the tree holds: the first line that defines one of them a second time.
@@ -261,26 +262,15 @@ fn definition_window(
     requires { (49152 ≤ length work.old) × (at ≤ length text.now) }
     ensures { result.at ≤ length text.now }
 {
-    let filled = fill_tree(
-        Task::AddDefinitions,
-        text,
-        h,
-        &mut *work,
-        &mut *marks,
-        k,
-        at,
-        limit,
-    );
-    let later = if filled.literal == 0 {
-        walk_lines(Task::SeekDefinition, text, h, work, marks, filled, limit)
-    } else {
-        filled
+    let filled = fill_tree(Task::AddDefinitions, text, h, work, marks, k, at, limit);
+    let later = match filled.found {
+        Some(_) => filled,
+        None => walk_lines(Task::SeekDefinition, text, h, work, marks, filled, limit),
     };
     Window {
         k: filled.k,
         at: filled.at,
-        found: later.k,
-        literal: later.literal,
+        found: later.found,
     }
 }
 
@@ -301,22 +291,12 @@ fn unmarked_use(
         k: 0,
         at: from,
         count: start.count,
-        literal: 0,
+        found: None,
     };
-    let marked = walk_lines(
-        Task::MarkDefinitions,
-        text,
-        h,
-        &mut *work,
-        &mut *marks,
-        all,
-        lines,
-    );
+    let marked = walk_lines(Task::MarkDefinitions, text, h, work, marks, all, lines);
     let again = Walk {
-        k: start.k,
-        at: start.at,
         count: marked.count,
-        literal: 0,
+        ..start
     };
     walk_lines(Task::SeekUse, text, h, work, marks, again, limit)
 }
@@ -335,28 +315,18 @@ fn use_window(
     requires { (49152 ≤ length work.old) × ((at ≤ length text.now) × (from ≤ length text.now)) }
     ensures { result.at ≤ length text.now }
 {
-    let filled = fill_tree(
-        Task::AddUses,
-        text,
-        h,
-        &mut *work,
-        &mut *marks,
+    let filled = fill_tree(Task::AddUses, text, h, work, marks, k, at, lines);
+    let start = Walk {
         k,
         at,
-        lines,
-    );
-    let start = Walk {
-        k: k,
-        at: at,
         count: filled.count,
-        literal: 0,
+        found: None,
     };
     let missing = unmarked_use(text, h, from, lines, work, marks, start, filled.k);
     Window {
         k: filled.k,
         at: filled.at,
-        found: missing.k,
-        literal: missing.literal,
+        found: missing.found,
     }
 }
 
@@ -381,15 +351,14 @@ fn ask_window(
     }
 }
 
-// The fault at counted line `k`; none if the literal is 0.
-fn found_fault(sought: Sought, k: usize, literal: u32) -> Fault {
-    if literal == 0 {
-        return fault_at(k, Cause::Nothing);
-    }
-    match sought {
-        Sought::Twice => fault_at(k, Cause::Twice { literal: literal }),
-        Sought::Undefined => fault_at(k, Cause::Undefined { literal: literal }),
-    }
+// The fault of a name that is found.
+fn fault_of(sought: Sought, name: Name) -> Fault {
+    let literal = name.literal;
+    let cause = match sought {
+        Sought::Twice => Cause::Twice { literal },
+        Sought::Undefined => Cause::Undefined { literal },
+    };
+    fault_at(name.k, cause)
 }
 
 // The first line with a name that is sought. Once one is found, only the lines before it are left to ask.
@@ -400,51 +369,47 @@ fn find_name(
     from: usize,
     work: &mut [u8],
     marks: &mut [u8],
-) -> Fault
+) -> Option<Fault>
     requires { (49152 ≤ length work.old) × (FewHeader h × (from ≤ length text.now)) }
 {
     let lines = aiger_lines::line_count(h);
     let mut limit = lines;
-    let mut literal: u32 = 0;
+    let mut found = None;
     let mut k = 0;
     let mut at = from;
-    let mut turns = 0;
-    'windows: while turns < lines {
+    for _ in 0..lines {
         if limit <= k {
-            return found_fault(sought, limit, literal);
+            break;
         }
-        let window = ask_window(sought, text, h, from, &mut *work, &mut *marks, k, at, limit);
-        if window.literal != 0 {
-            limit = window.found;
-            literal = window.literal;
+        let window = ask_window(sought, text, h, from, work, marks, k, at, limit);
+        if let Some(name) = window.found {
+            limit = name.k;
+            found = window.found;
         }
         k = window.k;
         at = window.at;
-        turns += 1;
     }
-    found_fault(sought, limit, literal)
+    Some(fault_of(sought, found?))
 }
 
 // The first name that is defined a second time; else the first that is used and not defined.
-fn ask_names(text: &[u8], h: Header, from: usize, work: &mut [u8]) -> Fault
+fn ask_names(text: &[u8], h: Header, from: usize, work: &mut [u8]) -> Option<Fault>
     requires { (49152 ≤ length work.old) × (FewHeader h × (from ≤ length text.now)) }
 {
     let mut marks = [0u8; MOST_NAMES];
-    let twice = find_name(Sought::Twice, text, h, from, &mut *work, &mut marks);
-    let cause = twice.cause;
-    match cause {
-        Cause::Nothing => find_name(Sought::Undefined, text, h, from, work, &mut marks),
-        _ => twice,
+    let twice = find_name(Sought::Twice, text, h, from, work, &mut marks);
+    if twice.is_some() {
+        return twice;
     }
+    find_name(Sought::Undefined, text, h, from, work, &mut marks)
 }
 
 // What is wrong with the names; nothing is found if work has less than 49,152 bytes.
-pub fn name_fault(text: &[u8], h: Header, from: usize, work: &mut [u8]) -> Fault
+pub fn name_fault(text: &[u8], h: Header, from: usize, work: &mut [u8]) -> Option<Fault>
     requires { FewHeader h × (from ≤ length text.now) }
 {
     if work.len() < WORK_BYTES {
-        fault_at(0, Cause::Nothing)
-    } else {
-        ask_names(text, h, from, work)
+        return None;
     }
+    ask_names(text, h, from, work)
 }

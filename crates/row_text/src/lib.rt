@@ -118,7 +118,9 @@ fn is_silent(line: &[u8]) -> bool {
 
 // The word at the start of a text: what comes before a blank or a remark.
 pub fn word_of(text: &[u8]) -> &[u8] {
-    let end = text.iter().position(|byte| is_blank(*byte) || *byte == b'#');
+    let end = text
+        .iter()
+        .position(|byte| is_blank(*byte) || *byte == b'#');
     match end {
         Some(end) => &text[..end],
         None => text,

@@ -1,10 +1,7 @@
--- `aiger_faults::line_start` stays in the text. The measure is how many lines are left.
+-- `aiger_faults::line_start` stays in the text.
 -- Assumes nothing.
-use Rattle.std.proofs.Common.{◌-◌, ◌≤◌, length}
+use Rattle.std.proofs.Common.{◌≤◌, length}
 use Rattle.aiger_faults.proofs.line_start.Given as goal
 
-abbrev pub invariant-lines : goal.invariant-lines
-invariant-lines l = l.at ≤ length l.text
-
-abbrev pub decreases-lines : goal.decreases-lines
-decreases-lines l = l.k - l.i
+abbrev pub invariant-loop : goal.invariant-loop
+invariant-loop l = l.at ≤ length l.text

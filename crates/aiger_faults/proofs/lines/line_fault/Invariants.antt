@@ -1,10 +1,7 @@
--- `aiger_faults::lines::line_fault` is safe and ends. The measure is how many lines are left.
+-- `aiger_faults::lines::line_fault` stays in the text.
 -- Assumes nothing.
-use Rattle.std.proofs.Common.{◌-◌, ◌≤◌, length}
+use Rattle.std.proofs.Common.{◌≤◌, length}
 use Rattle.aiger_faults.proofs.lines.line_fault.Given as goal
 
-abbrev pub invariant-lines : goal.invariant-lines
-invariant-lines l = l.at ≤ length l.text
-
-abbrev pub decreases-lines : goal.decreases-lines
-decreases-lines l = l.lines - l.k
+abbrev pub invariant-loop-k : goal.invariant-loop-k
+invariant-loop-k l = l.at ≤ length l.text
