@@ -5,11 +5,19 @@ use mathlib.Core.Path.{◌≡◌, refl, sym, ap, ◌∙◌}
 use mathlib.Core.Bool.{true, false, cond, false≢true}
 use native.Mathlib.Omega.{arith}
 use native.Mathlib.Decide.{dec_lt}
+use mathlib.Core.List.{List}
+use lib.ListN.{drop}
 use lib.Dec.{ltb}
 use borrow.Author.Tests.{ltb-true, ltb-false, lt-ltb, le-ltb}
+use Rattle.std.specs.Prelude.{Option, IsSome}
 use Rattle.memory.proofs.TestLaws.{cond-case}
 use Rattle.aiger.specs.AigerText.{Header, Aiger, Section, input_line, latch_line, output_line, gate_line, line_count, number_at, section_of, node_count, node_literal, lines_right}
 use Rattle.aiger.proofs.NodeLaws.{place_of, early-literal, late-literal, literal-even}
+use Rattle.aiger.specs.AigerReading.{line}
+use Rattle.aiger_lines.specs.declared.Line.{Line}
+use Rattle.aiger_lines.specs.declared.Header as h
+use Rattle.aiger_lines.specs.Lines.{header_in, aiger_in, lines_stand, line_read, LineStart}
+use Rattle.aiger_lines.proofs.LineLaws.{line-read}
 use Rattle.aiger_names.specs.Names.{defines_in, defines_at, row_of_line, nodes_before}
 
 -- What holds of each section for its lines holds of the section of line k.
@@ -148,3 +156,16 @@ module _ (a : Aiger) where
 
   pub node-even : (r : ℕ) → lines_right a ≡ true → r < node_count a.header → node_literal a r % 2 ≡ 0
   node-even r right l = literal-even a right r l (place_of a r (omega arith))
+
+-- ---- where all lines stand, each is there to be read
+
+pub line-some :
+    (text : List ℕ) (x : h.Header) (lines k at : ℕ) (o : Option Line)
+    → lines_stand text ≡ true
+    → header_in x ≡ (aiger_in text).header
+    → lines ≡ line_count (header_in x)
+    → k < lines
+    → LineStart text k at
+    → line_read text o ≡ line 3 (drop at text)
+    → IsSome o
+line-some text x lines k at o stand same count below start read = line-read text k at (record { stand = stand; among = rw (← same, ← count) below; start = start }) o read

@@ -11,6 +11,7 @@ use lib.ListN.{length, get_or, drop}
 use lib.Seq.{sets}
 use lib.Dec.{eqb, ltb, leb}
 use borrow.Author.Tests.{ltb-true, ltb-false, leb-true, lt-ltb, le-ltb, le-leb, lt-leb, eq-eqb, ne_eqb, not-true, not-false}
+use Rattle.std.specs.Prelude.{Option, Some, IfSome, Result, Ok, Err}
 use Rattle.memory.specs.Lists.{count_if}
 use Rattle.memory.specs.Fields.{u16_at, u16_bytes}
 use Rattle.memory.specs.Frames.{KeptOutside}
@@ -31,8 +32,7 @@ use Rattle.name_tree.specs.Trees.{variable_at, entry_of, Tree}
 use Rattle.name_tree.proofs.TreeLaws.{variable-kept, tree-kept}
 use Rattle.aiger_names.specs.Names.{defines_at, row_of_line, found_in, WindowStands, WindowReady, node_in, uses_found, lines_found, use_offset, use_at, PairsLooked, NamesRoom, line_uses, defined_before, PairRoom, LiteralLooked, UsesLooked, LineLooked, LineTwice, LineLookedIs, LookedUp}
 use Rattle.aiger_names.specs.declared.Window.{Window}
-use Rattle.aiger_names.specs.declared.Looked.{Looked}
-use Rattle.aiger_names.specs.declared.Looked.TheVariants as looked
+use Rattle.aiger_names.specs.declared.DefinedTwice.{DefinedTwice}
 use Rattle.aiger_names.proofs.LineRowLaws.{section-case, early-row, output-row, gate-row, row_inside}
 use Rattle.aiger_names.proofs.WindowLaws.{found-is, found-le, window-kept, line-twice}
 use Rattle.aiger_names.proofs.CountLaws.{found-start, found-next, found-few, found-most}
@@ -484,17 +484,20 @@ module _ (text : List ℕ) (x : h.Header) (from : ℕ) (fits : Bool) (base : ℕ
       pub look-inside : win.end ≤ node_count (header_in x)
       look-inside = omega (arith, S.inside, ap node_count C.header)
 
-      module _ (lines : ℕ) (l : Line) (w' : List ℕ) (r : Looked) (count : lines ≡ line_count (header_in x)) (among : k < lines) (read : line_read text l ≡ line 3 (drop at text)) (pad : Padded text l) (is : LineLookedIs (header_in x) fits base win k l w w' r) where
+      module _ (lines : ℕ) (o : Option Line) (l : Line) (w' : List ℕ) (r : Result ℕ DefinedTwice) (count : lines ≡ line_count (header_in x)) (among : k < lines) (read : line_read text o ≡ line 3 (drop at text)) (got : o ≡ Some l) (padded : IfSome o (Padded text)) (is : LineLookedIs (header_in x) fits base win k l w w' r) where
         among-text : k < line_count (aiger_in text).header
         among-text = omega (arith, ap line_count C.header)
 
+        pad : Padded text l
+        pad = rw got at padded
+
         here : LineHere text k l
-        here = next-line text k at l (record { stand = C.stand; among = among-text; start = T.start }) read pad
+        here = next-line text k at o l (record { stand = C.stand; among = among-text; start = T.start }) read got padded
 
-        pub look_twice : r ≡ looked.Twice → is_distinct (aiger_in text) ≡ false
-        look_twice q = twice-here text base win w k l here (padded-few text l pad) stands (standing text C.stand).right among-text (subst (λ (h : Header). LineTwice h base win k l w) C.header (rw q at is))
+        pub look_twice : (t : DefinedTwice) → r ≡ Err t → is_distinct (aiger_in text) ≡ false
+        look_twice t q = twice-here text base win w k l here (padded-few text l pad) stands (standing text C.stand).right among-text (subst (λ (h : Header). LineTwice h base win k l w) C.header (rw q at is))
 
-        module _ (m : ℕ) (q : r ≡ looked.Found m) where
+        module _ (m : ℕ) (q : r ≡ Ok m) where
           looked-here : LineLooked (aiger_in text).header fits base win k l w w' m
           looked-here = subst (λ (h : Header). LineLooked h fits base win k l w w' m) C.header (rw q at is)
 

@@ -8,6 +8,7 @@ use native.Mathlib.Omega.{arith}
 use lib.ListN.{length, drop}
 use lib.Dec.{eqb}
 use borrow.Author.Tests.{not-true, not-false}
+use Rattle.std.specs.Prelude.{Option, Some, IfSome, Result, Ok}
 use Rattle.memory.specs.Fields.{u16_at}
 use Rattle.memory.specs.Frames.{KeptOutside}
 use Rattle.memory.proofs.FrameLaws.{u16-kept, kept-none, kept-join}
@@ -22,12 +23,7 @@ use Rattle.aiger_lines.proofs.LineLaws.{standing, next-line}
 use Rattle.aiger_names.specs.Names.{name_bytes, defines_in, defines_at, nodes_before, PlaceIs, WindowStands, CountsUp, TreeHas, lines_found, use_count, DistinctBelow, use_offset, PairsLooked, PairsBelow, ResetsStand, PairsStand, NamesRoom, TreeFilled, FilledIs, LookedUp, LookedIs, WindowTaken, TakenIs}
 use Rattle.aiger_names.specs.declared.Window.{Window}
 use Rattle.aiger_names.specs.declared.Place.{Place}
-use Rattle.aiger_names.specs.declared.Filled.{Filled}
-use Rattle.aiger_names.specs.declared.Filled.TheVariants as filled
-use Rattle.aiger_names.specs.declared.Looked.{Looked}
-use Rattle.aiger_names.specs.declared.Looked.TheVariants as looked
-use Rattle.aiger_names.specs.declared.Taken.{Taken}
-use Rattle.aiger_names.specs.declared.Taken.TheVariants as taken
+use Rattle.aiger_names.specs.declared.DefinedTwice.{DefinedTwice}
 use Rattle.aiger_names.proofs.LineRowLaws.{nodes-first, nodes-end, nodes-most, nodes-more, nodes-same, nodes-below, row_inside, node-literal-next, node-even}
 use Rattle.aiger_names.proofs.WindowLaws.{window-apart, distinct-zero, distinct-next, distinct-all, later-apart}
 use Rattle.aiger_names.proofs.FillLaws.{run-first, run-next, window-run, filled_none, filled_next, filled-twice, window-tree}
@@ -69,18 +65,18 @@ place-upto text x lines p e n P = subst (λ k. p.line ≤ k) (sym (n ∙ ap line
 
 -- The line l is read at the place; b says whether it defines a node.
 module _
-    (text : List ℕ) (x : h.Header) (lines line node at : ℕ) (l : Line) (section : s.Section) (b : Bool)
+    (text : List ℕ) (x : h.Header) (lines line node at : ℕ) (o : Option Line) (l : Line) (section : s.Section) (b : Bool)
     (stand : lines_stand text ≡ true) (same : header_in x ≡ (aiger_in text).header)
     (P : PlaceIs text (place_at line node at))
     (count : lines ≡ line_count (header_in x)) (below : line < lines)
-    (read : line_read text l ≡ reading.line 3 (drop at text)) (pad : Padded text l)
+    (read : line_read text o ≡ reading.line 3 (drop at text)) (got : o ≡ Some l) (pad : IfSome o (Padded text))
     (sec : section_in section ≡ section_of (header_in x) line) (def : b ≡ defines_in (section_in section))
   where
     among : line < line_count (aiger_in text).header
     among = rw (← same, ← count) below
 
     here : LineHere text line l
-    here = next-line text line at l (record { stand = stand; among = among; start = P.start }) read pad
+    here = next-line text line at o l (record { stand = stand; among = among; start = P.start }) read got pad
 
     defines-is : defines_at (aiger_in text).header line ≡ b
     defines-is = rw (← same, ← sec) (sym def)
@@ -144,15 +140,15 @@ pub filling-room : (text : List ℕ) (place : Place) (base capacity : ℕ) (w₀
 filling-room text place base capacity w₀ w line at count F e n = let l : count < capacity = omega (arith, F.room, n) in omega arith
 
 module _
-    (text : List ℕ) (x : h.Header) (place : Place) (base capacity lines line at count : ℕ) (w₀ w : List ℕ) (l : Line) (section : s.Section) (b : Bool)
+    (text : List ℕ) (x : h.Header) (place : Place) (base capacity lines line at count : ℕ) (w₀ w : List ℕ) (o : Option Line) (l : Line) (section : s.Section) (b : Bool)
     (stand : lines_stand text ≡ true) (same : header_in x ≡ (aiger_in text).header)
     (F : Filling text place base capacity w₀ w line at count)
     (counted : lines ≡ line_count (header_in x)) (below : line < lines)
-    (read : line_read text l ≡ reading.line 3 (drop at text)) (pad : Padded text l)
+    (read : line_read text o ≡ reading.line 3 (drop at text)) (got : o ≡ Some l) (pad : IfSome o (Padded text))
     (sec : section_in section ≡ section_of (header_in x) line) (def : b ≡ defines_in (section_in section))
   where
     half : b ≡ true → node_literal (aiger_in text) (place.node + count) ≡ 2 * (l.first / 2)
-    half = half-read text x lines line (place.node + count) at l section b stand same F.here counted below read pad sec def
+    half = half-read text x lines line (place.node + count) at o l section b stand same F.here counted below read got pad sec def
 
     pub filling-more :
         (w₁ w₂ : List ℕ) (line' count' : ℕ) (r : Bool)
@@ -169,7 +165,7 @@ module _
         let A = add (not-false r new) in
         let room = filling-room text place base capacity w₀ w line at count F q n in
         rw u (record {
-          here = place-more text x lines line (place.node + count) at l section b stand same F.here counted below read pad sec def line' (place.node + count') t e (omega arith);
+          here = place-more text x lines line (place.node + count) at o l section b stand same F.here counted below read got pad sec def line' (place.node + count') t e (omega arith);
           has = filled_next (aiger_in text) w w₁ base place.node count count' (l.first / 2) F.has A (half t) f;
           outside = kept-join base name_bytes w₀ w w₁ F.outside A.outside (omega arith) (omega arith) (omega arith) (omega arith);
           room = omega (arith, F.room, n);
@@ -177,7 +173,7 @@ module _
 
     pub filling-same : (w₁ : List ℕ) (line' count' : ℕ) → b ≡ false → w₁ ≡ w → line' ≡ line + 1 → count' ≡ count → Filling text place base capacity w₀ w₁ line' l.next count'
     filling-same w₁ line' count' t u e f = rw u (record {
-      here = place_same text x lines line (place.node + count) at l section b stand same F.here counted below read pad sec def line' (place.node + count') t e (omega arith);
+      here = place_same text x lines line (place.node + count) at o l section b stand same F.here counted below read got pad sec def line' (place.node + count') t e (omega arith);
       has = rw f F.has;
       outside = F.outside;
       room = omega (arith, F.room);
@@ -187,7 +183,7 @@ module _
     pub filling-twice : (r : Bool) → b ≡ true → (r ≡ false → entry_of w base count (l.first / 2) < count) → not r ≡ true → is_distinct (aiger_in text) ≡ false
     filling-twice r t q old =
         filled-twice (aiger_in text) w base place.node count (l.first / 2) F.has (q (not-true r old)) (half t)
-        (node-below text x lines line (place.node + count) at l section b stand same F.here counted below read pad sec def t)
+        (node-below text x lines line (place.node + count) at o l section b stand same F.here counted below read got pad sec def t)
 
 pub filling-few : (text : List ℕ) (x : h.Header) (place : Place) (base capacity line at count : ℕ) (w₀ w : List ℕ) → FewHeader x → header_in x ≡ (aiger_in text).header → Filling text place base capacity w₀ w line at count → place.node + count < 2 ^ 64
 filling-few text x place base capacity line at count w₀ w few e F = omega (arith, place-few text x (place_at line (place.node + count) at) few e F.here)
@@ -202,34 +198,29 @@ module _ (text : List ℕ) (place : Place) (base capacity line at count : ℕ) (
   pub filled-full : base + 8 ≤ name_bytes → capacity ≡ (name_bytes - base) / 8 → count ≡ capacity → TreeFilled text place (place_at line (place.node + count) at) base w₀ w
   filled-full h e n = filled-all (omega arith)
 
-  pub filled-ended : (x : h.Header) (lines : ℕ) → header_in x ≡ (aiger_in text).header → lines ≡ line_count (header_in x) → lines ≤ line → place.node < node_count (header_in x) → TreeFilled text place (place_at line (place.node + count) at) base w₀ w
+  pub filled-ended : (x : h.Header) (lines : ℕ) → header_in x ≡ (aiger_in text).header → lines ≡ line_count (header_in x) → lines ≤ line → place.node < node_count (header_in x) → TreeFilled text place (place_at lines (place.node + count) at) base w₀ w
   filled-ended x lines e n h l =
-      let q : line_count (aiger_in text).header ≤ line = rw (← e, ← n) h in
+      let q : line_count (aiger_in text).header ≡ lines = rw (← e) (sym n) in
       let m : place.node < node_count (aiger_in text).header = rw (← e) l in
       let z : line ≡ line_count (aiger_in text).header = omega (arith, F.here.inside) in
-      filled-all (omega (arith, F.here.node, ap (nodes_before (aiger_in text).header) z, nodes-end (aiger_in text).header))
+      let d : line ≡ lines = omega arith in
+      rw (← d) (filled-all (omega (arith, F.here.node, ap (nodes_before (aiger_in text).header) z, nodes-end (aiger_in text).header)))
 
 -- ---- a window that is taken
 
 -- What was filled, and what was looked up, by the answer.
-filled_is : (text : List ℕ) (place next : Place) (base : ℕ) (w w' : List ℕ) (r : Filled) → FilledIs text place base w w' r → r ≡ filled.Is next → TreeFilled text place next base w w'
+filled_is : (text : List ℕ) (place next : Place) (base : ℕ) (w w' : List ℕ) (r : Result Place DefinedTwice) → FilledIs text place base w w' r → r ≡ Ok next → TreeFilled text place next base w w'
 filled_is text place next base w w' r F e = rw e at F
 
-pub filled-wrong : (text : List ℕ) (place : Place) (base : ℕ) (w w' : List ℕ) (r : Filled) → FilledIs text place base w w' r → r ≡ filled.Twice → is_distinct (aiger_in text) ≡ false
-filled-wrong text place base w w' r F e = rw e at F
-
-module _ (a : Aiger) (fits : Bool) (base s e : ℕ) (w w' : List ℕ) (r : Looked) (L : LookedIs a fits base s e w w' r) where
-  looked-is : (n : ℕ) → r ≡ looked.Found n → LookedUp a fits base s e w w' n
+module _ (a : Aiger) (fits : Bool) (base s e : ℕ) (w w' : List ℕ) (r : Result ℕ DefinedTwice) (L : LookedIs a fits base s e w w' r) where
+  looked-is : (n : ℕ) → r ≡ Ok n → LookedUp a fits base s e w w' n
   looked-is n q = rw q at L
-
-  pub looked-wrong : r ≡ looked.Twice → is_distinct a ≡ false
-  looked-wrong q = rw q at L
 
 -- The windows stand.
 pub run-stands : (text : List ℕ) (w : List ℕ) (base : ℕ) (p : Place) (win : Window) → PlaceIs text p → CountsUp (aiger_in text) p.node → win.start ≡ 0 → win.end ≡ p.node → win.tree ≡ false → WindowStands (aiger_in text) w base win
 run-stands text w base p win P C s e t = window-run (aiger_in text) w base win s t (rw e C) (rw e (place_inside text p P))
 
-pub tree-stands : (text : List ℕ) (w w' : List ℕ) (base : ℕ) (place next : Place) (win : Window) (f : Filled) → FilledIs text place base w w' f → f ≡ filled.Is next → win.start ≡ place.node → win.end ≡ next.node → win.tree ≡ true → WindowStands (aiger_in text) w' base win
+pub tree-stands : (text : List ℕ) (w w' : List ℕ) (base : ℕ) (place next : Place) (win : Window) (f : Result Place DefinedTwice) → FilledIs text place base w w' f → f ≡ Ok next → win.start ≡ place.node → win.end ≡ next.node → win.tree ≡ true → WindowStands (aiger_in text) w' base win
 tree-stands text w w' base place next win f F g s e t =
     let T = filled_is text place next base w w' f F g in
     window-tree (aiger_in text) w' base (next.node - place.node) win t (rw s T.has) (omega (arith, T.more)) (rw e (place_inside text next T.place))
@@ -279,14 +270,14 @@ module _
     }
 
 pub run-taken :
-    (text : List ℕ) (x : h.Header) (from : ℕ) (fits : Bool) (base : ℕ) (p : Place) (w w' : List ℕ) (n : ℕ) (r : Looked)
+    (text : List ℕ) (x : h.Header) (from : ℕ) (fits : Bool) (base : ℕ) (p : Place) (w w' : List ℕ) (n : ℕ) (r : Result ℕ DefinedTwice)
     → Counted text x from
     → NamesRoom (header_in x) fits base w
     → PlaceIs text p
     → CountsUp (aiger_in text) p.node
     → 0 < p.node
     → LookedIs (aiger_in text) fits base 0 p.node w w' r
-    → r ≡ looked.Found n
+    → r ≡ Ok n
     → WindowTaken text fits 0 p w w' n
 run-taken text x from fits base p w w' n r C R P U more L q =
     let win : Window = record { start = 0; end = p.node; tree = false } in
@@ -294,13 +285,13 @@ run-taken text x from fits base p w w' n r C R P U more L q =
     (looked-is (aiger_in text) fits base 0 p.node w w' r L n q)
 
 pub tree-taken :
-    (text : List ℕ) (x : h.Header) (from : ℕ) (fits : Bool) (base : ℕ) (place next : Place) (w w₁ w' : List ℕ) (n : ℕ) (f : Filled) (r : Looked)
+    (text : List ℕ) (x : h.Header) (from : ℕ) (fits : Bool) (base : ℕ) (place next : Place) (w w₁ w' : List ℕ) (n : ℕ) (f : Result Place DefinedTwice) (r : Result ℕ DefinedTwice)
     → Counted text x from
     → NamesRoom (header_in x) fits base w
     → FilledIs text place base w w₁ f
-    → f ≡ filled.Is next
+    → f ≡ Ok next
     → LookedIs (aiger_in text) fits base place.node next.node w₁ w' r
-    → r ≡ looked.Found n
+    → r ≡ Ok n
     → WindowTaken text fits place.node next w w' n
 tree-taken text x from fits base place next w w₁ w' n f r C R F g L q =
     let T = filled_is text place next base w w₁ f F g in
@@ -319,11 +310,7 @@ pub record Taking (text : List ℕ) (x : h.Header) (fits : Bool) (base : ℕ) (w
   pub room : NamesRoom (header_in x) fits base w
   pub few : line_count (aiger_in text).header < 2 ^ 40
 
--- A window that is not taken tells that a variable is defined twice.
-pub taken-wrong : (text : List ℕ) (fits : Bool) (s : ℕ) (w w' : List ℕ) (r : Taken) → TakenIs text fits s w w' r → r ≡ taken.Twice → false ≡ is_distinct (aiger_in text) && is_defined (aiger_in text)
-taken-wrong text fits s w w' r T q = let e : is_distinct (aiger_in text) ≡ false = rw q at T in rw e
-
-module _ (text : List ℕ) (x : h.Header) (fits : Bool) (base s : ℕ) (w w' : List ℕ) (next : Place) (n : ℕ) (r : Taken) (answer : TakenIs text fits s w w' r) (is : r ≡ taken.Is next n) where
+module _ (text : List ℕ) (x : h.Header) (fits : Bool) (base s : ℕ) (w w' : List ℕ) (next : Place) (n : ℕ) (r : Result (Place × ℕ) DefinedTwice) (answer : TakenIs text fits s w w' r) (is : r ≡ Ok (next, n)) where
   T : WindowTaken text fits s next w w' n
   T = rw is at answer
 
@@ -364,9 +351,9 @@ module _ (text : List ℕ) (x : h.Header) (fits : Bool) (base s : ℕ) (w w' : L
 
 -- Sums of counts are few.
 pub found-fits :
-    (text : List ℕ) (x : h.Header) (fits : Bool) (base : ℕ) (w w' : List ℕ) (place next : Place) (found n : ℕ) (r : Taken)
+    (text : List ℕ) (x : h.Header) (fits : Bool) (base : ℕ) (w w' : List ℕ) (place next : Place) (found n : ℕ) (r : Result (Place × ℕ) DefinedTwice)
     → Taking text x fits base w place found
-    → r ≡ taken.Is next n
+    → r ≡ Ok (next, n)
     → TakenIs text fits place.node w w' r
     → found + n < 2 ^ 64
 found-fits text x fits base w w' place next found n r B is answer =

@@ -2,7 +2,7 @@
 -- The pair of row r is two numbers of 16 bits, at 4 * r.
 -- Interface: name_bytes, NamesRoom, PairsStand; inside the crate the rest.
 -- Assumes nothing.
-use Rattle.std.specs.Prelude.{ℕ, zero, suc, ◌+◌, ◌-◌, ◌*◌, ◌/◌, ◌%◌, ◌<◌, ◌≤◌, min, ◌≡◌, Bool, true, false, cond, ◌&&◌, List, [], ◌∷◌, length, get_or, ltb, leb}
+use Rattle.std.specs.Prelude.{ℕ, zero, suc, ◌+◌, ◌-◌, ◌*◌, ◌/◌, ◌%◌, ◌<◌, ◌≤◌, min, ◌≡◌, Bool, true, false, cond, ◌&&◌, List, [], ◌∷◌, length, get_or, Result, Ok, Err, ltb, leb}
 use Rattle.memory.specs.Lists.{count_if}
 use Rattle.memory.specs.Fields.{u16_at}
 use Rattle.memory.specs.Frames.{KeptOutside}
@@ -14,12 +14,7 @@ use Rattle.aiger_lines.specs.declared.Line.{Line}
 use Rattle.name_tree.specs.Trees.{variable_at, entry_of, Tree}
 use Rattle.aiger_names.specs.declared.Window.{Window}
 use Rattle.aiger_names.specs.declared.Place.{Place}
-use Rattle.aiger_names.specs.declared.Filled.{Filled}
-use Rattle.aiger_names.specs.declared.Filled.TheVariants as filled
-use Rattle.aiger_names.specs.declared.Looked.{Looked}
-use Rattle.aiger_names.specs.declared.Looked.TheVariants as looked
-use Rattle.aiger_names.specs.declared.Taken.{Taken}
-use Rattle.aiger_names.specs.declared.Taken.TheVariants as taken
+use Rattle.aiger_names.specs.declared.DefinedTwice.{DefinedTwice}
 
 -- The bytes that pairs and tree are lent: enough for the pairs of as many rows as a file has, and a tree of all their nodes.
 abbrev pub name_bytes : ℕ
@@ -145,9 +140,9 @@ pub record TreeFilled (text : List ℕ) (from next : Place) (base : ℕ) (w w' :
   pub has : TreeHas (aiger_in text) w' base from.node (next.node - from.node)
   pub outside : KeptOutside base name_bytes w w'
 
-abbrev pub FilledIs : List ℕ → Place → ℕ → List ℕ → List ℕ → Filled → Type 0
-FilledIs text place base w w' (filled.Is next) = TreeFilled text place next base w w'
-FilledIs text place base w w' filled.Twice = is_distinct (aiger_in text) ≡ false
+abbrev pub FilledIs : List ℕ → Place → ℕ → List ℕ → List ℕ → Result Place DefinedTwice → Type 0
+FilledIs text place base w w' (Ok next) = TreeFilled text place next base w w'
+FilledIs text place base w w' (Err e) = is_distinct (aiger_in text) ≡ false
 
 -- What one line uses, by its section.
 abbrev pub line_uses : Section → Line → List ℕ
@@ -187,9 +182,9 @@ pub record LineLooked (h : Header) (fits : Bool) (base : ℕ) (win : Window) (k 
 pub record LineTwice (h : Header) (base : ℕ) (win : Window) (k : ℕ) (l : Line) (w : List ℕ) : Type 0 where
   pub before : defined_before w base win (row_of_line h k) (section_of h k) l ≡ true
 
-abbrev pub LineLookedIs : Header → Bool → ℕ → Window → ℕ → Line → List ℕ → List ℕ → Looked → Type 0
-LineLookedIs h fits base win k l w w' (looked.Found n) = LineLooked h fits base win k l w w' n
-LineLookedIs h fits base win k l w w' looked.Twice = LineTwice h base win k l w
+abbrev pub LineLookedIs : Header → Bool → ℕ → Window → ℕ → Line → List ℕ → List ℕ → Result ℕ DefinedTwice → Type 0
+LineLookedIs h fits base win k l w w' (Ok n) = LineLooked h fits base win k l w w' n
+LineLookedIs h fits base win k l w w' (Err e) = LineTwice h base win k l w
 
 -- The whole walk for the window of nodes s to e - 1: n uses are found, no later definition is one of the window's.
 pub record LookedUp (a : Aiger) (fits : Bool) (base s e : ℕ) (w w' : List ℕ) (n : ℕ) : Type 0 where
@@ -198,9 +193,9 @@ pub record LookedUp (a : Aiger) (fits : Bool) (base s e : ℕ) (w w' : List ℕ)
   pub pairs : fits ≡ true → PairsLooked a s e (line_count a.header) w w'
   pub kept : KeptOutside 0 base w w'
 
-abbrev pub LookedIs : Aiger → Bool → ℕ → ℕ → ℕ → List ℕ → List ℕ → Looked → Type 0
-LookedIs a fits base s e w w' (looked.Found n) = LookedUp a fits base s e w w' n
-LookedIs a fits base s e w w' looked.Twice = is_distinct a ≡ false
+abbrev pub LookedIs : Aiger → Bool → ℕ → ℕ → ℕ → List ℕ → List ℕ → Result ℕ DefinedTwice → Type 0
+LookedIs a fits base s e w w' (Ok n) = LookedUp a fits base s e w w' n
+LookedIs a fits base s e w w' (Err t) = is_distinct a ≡ false
 
 -- A window from node s on is taken: where it ends, n the uses that it has.
 pub record WindowTaken (text : List ℕ) (fits : Bool) (s : ℕ) (next : Place) (w w' : List ℕ) (n : ℕ) : Type 0 where
@@ -211,6 +206,6 @@ pub record WindowTaken (text : List ℕ) (fits : Bool) (s : ℕ) (next : Place) 
   pub pairs : fits ≡ true → PairsLooked (aiger_in text) s next.node (line_count (aiger_in text).header) w w'
   pub long : length w' ≡ length w
 
-abbrev pub TakenIs : List ℕ → Bool → ℕ → List ℕ → List ℕ → Taken → Type 0
-TakenIs text fits s w w' (taken.Is next n) = WindowTaken text fits s next w w' n
-TakenIs text fits s w w' taken.Twice = is_distinct (aiger_in text) ≡ false
+abbrev pub TakenIs : List ℕ → Bool → ℕ → List ℕ → List ℕ → Result (Place × ℕ) DefinedTwice → Type 0
+TakenIs text fits s w w' (Ok t) = WindowTaken text fits s t.0 w w' t.1
+TakenIs text fits s w w' (Err e) = is_distinct (aiger_in text) ≡ false

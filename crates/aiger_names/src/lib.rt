@@ -28,26 +28,9 @@ pub struct Place {
     pub at: usize,
 }
 
-// Where a window ends, or that a variable is defined twice.
+// A variable is defined twice.
 #[derive(Clone, Copy)]
-enum Filled {
-    Is(Place),
-    Twice,
-}
-
-// How many uses a window has, or that a variable is defined twice.
-#[derive(Clone, Copy)]
-enum Looked {
-    Found(usize),
-    Twice,
-}
-
-// Where a window ends and how many uses it has, or that a variable is defined twice.
-#[derive(Clone, Copy)]
-enum Taken {
-    Is(Place, usize),
-    Twice,
-}
+struct DefinedTwice;
 
 // Whether a line of the section defines a variable.
 fn defines(section: Section) -> bool
@@ -80,34 +63,34 @@ fn measure_run(text: &[u8], h: Header, from: usize) -> Place
     ensures { PlaceIs text.now result × (CountsUp (aiger_in text.now) result.node × (0 < result.node)) }
 {
     let lines = aiger_lines::line_count(h);
-    let mut line = 0;
     let mut node = 1;
     let mut at = from;
-    'lines: while line < lines {
-        let l = aiger_lines::read_line(text, at);
+    for line in 0..lines {
+        let l = aiger_lines::read_line(text, at).unwrap();
         let section = aiger_lines::section_of(h, line);
         if defines(section) {
             if l.first as usize != 2 * node {
-                return Place {
-                    line: line,
-                    node: node,
-                    at: at,
-                };
+                return Place { line, node, at };
             }
             node += 1;
         }
         at = l.next;
-        line += 1;
     }
     Place {
-        line: line,
-        node: node,
-        at: at,
+        line: lines,
+        node,
+        at,
     }
 }
 
-// The nodes from `place` on, as many as there is room for, in a tree.
-fn fill_tree(text: &[u8], h: Header, place: Place, base: usize, work: &mut [u8]) -> Filled
+// The nodes from `place` on, as many as there is room for, in a tree: where they end.
+fn fill_tree(
+    text: &[u8],
+    h: Header,
+    place: Place,
+    base: usize,
+    work: &mut [u8],
+) -> Result<Place, DefinedTwice>
     requires text_value { (lines_stand text.now ≡ true) × ((header_in h ≡ (aiger_in text.now).header) × FewHeader h) }
     requires place_is { PlaceIs text.now place × (place.node < node_count (header_in h)) }
     requires base_bound { (base + 8 ≤ name_bytes) × (name_bytes ≤ length work.old) }
@@ -116,29 +99,30 @@ fn fill_tree(text: &[u8], h: Header, place: Place, base: usize, work: &mut [u8])
 {
     let lines = aiger_lines::line_count(h);
     let capacity = (NAME_BYTES - base) / 8;
-    let mut line = place.line;
     let mut at = place.at;
     let mut count = 0;
-    'lines: while line < lines {
+    for line in place.line..lines {
         if count == capacity {
-            break 'lines;
+            return Ok(Place {
+                line,
+                node: place.node + count,
+                at,
+            });
         }
-        let l = aiger_lines::read_line(text, at);
+        let l = aiger_lines::read_line(text, at).unwrap();
         let section = aiger_lines::section_of(h, line);
         if defines(section) {
             if !name_tree::add_entry(&mut *work, base, count, l.first / 2) {
-                return Filled::Twice;
+                return Err(DefinedTwice);
             }
             count += 1;
         }
         at = l.next;
-        line += 1;
     }
-    let node = place.node + count;
-    Filled::Is(Place {
-        line: line,
-        node: node,
-        at: at,
+    Ok(Place {
+        line: lines,
+        node: place.node + count,
+        at,
     })
 }
 
@@ -243,7 +227,7 @@ fn defined_before(
     find_node(work, base, window, l.first / 2) != window.end
 }
 
-// One line of the walk.
+// One line of the walk: how many of its uses the window has.
 fn look_up_line(
     work: &mut [u8],
     h: Header,
@@ -252,7 +236,7 @@ fn look_up_line(
     window: Window,
     line: usize,
     l: Line,
-) -> Looked
+) -> Result<usize, DefinedTwice>
     requires window_ready { WindowReady work.old base window × (FewHeader h × (line < line_count (header_in h))) }
     requires names_room { NamesRoom (header_in h) fits base work.old × (window.end ≤ node_count (header_in h)) }
     ensures line_looked_is { LineLookedIs (header_in h) fits base window line l work.old work.new result }
@@ -261,13 +245,13 @@ fn look_up_line(
     let section = aiger_lines::section_of(h, line);
     let row = row_of(h, section, line);
     if defined_before(work, base, window, row, section, l) {
-        return Looked::Twice;
+        Err(DefinedTwice)
+    } else {
+        Ok(look_up_uses(work, fits, base, window, row, section, l))
     }
-    let found = look_up_uses(work, fits, base, window, row, section, l);
-    Looked::Found(found)
 }
 
-// The walk: all lines, for one window.
+// The walk: all lines, for one window, and how many uses it has.
 fn look_up(
     text: &[u8],
     h: Header,
@@ -276,33 +260,25 @@ fn look_up(
     base: usize,
     window: Window,
     work: &mut [u8],
-) -> Looked
+) -> Result<usize, DefinedTwice>
     requires counted { Counted text.now h from × NamesRoom (header_in h) fits base work.old }
     requires window_stands { WindowStands (aiger_in text.now) work.old base window }
     ensures looked_is { LookedIs (aiger_in text.now) fits base window.start window.end work.old work.new result }
     ensures work_len_unchanged { length work.new ≡ length work.old }
 {
     let lines = aiger_lines::line_count(h);
-    let mut line = 0;
     let mut at = from;
     let mut found = 0;
-    'lines: while line < lines {
-        let l = aiger_lines::read_line(text, at);
-        match look_up_line(&mut *work, h, fits, base, window, line, l) {
-            Looked::Twice => {
-                return Looked::Twice;
-            }
-            Looked::Found(more) => {
-                found += more;
-            }
-        }
+    for line in 0..lines {
+        let l = aiger_lines::read_line(text, at).unwrap();
+        let more = look_up_line(&mut *work, h, fits, base, window, line, l)?;
+        found += more;
         at = l.next;
-        line += 1;
     }
-    Looked::Found(found)
+    Ok(found)
 }
 
-// The next window, filled and looked up.
+// The next window, filled and looked up: where it ends, and how many uses it has.
 fn take_window(
     text: &[u8],
     h: Header,
@@ -311,30 +287,31 @@ fn take_window(
     base: usize,
     place: Place,
     work: &mut [u8],
-) -> Taken
+) -> Result<(Place, usize), DefinedTwice>
     requires counted { Counted text.now h from × NamesRoom (header_in h) fits base work.old }
     requires place_is { PlaceIs text.now place × (place.node < node_count (header_in h)) }
     ensures taken_is { TakenIs text.now fits place.node work.old work.new result }
     ensures work_len_unchanged { length work.new ≡ length work.old }
 {
-    match fill_tree(text, h, place, base, &mut *work) {
-        Filled::Twice => Taken::Twice,
-        Filled::Is(next) => {
-            let window = Window {
-                start: place.node,
-                end: next.node,
-                tree: true,
-            };
-            match look_up(text, h, from, fits, base, window, work) {
-                Looked::Twice => Taken::Twice,
-                Looked::Found(found) => Taken::Is(next, found),
-            }
-        }
-    }
+    let next = fill_tree(text, h, place, base, &mut *work)?;
+    let window = Window {
+        start: place.node,
+        end: next.node,
+        tree: true,
+    };
+    let found = look_up(text, h, from, fits, base, window, work)?;
+    Ok((next, found))
 }
 
 // The first window, of the nodes that count up.
-fn take_run(text: &[u8], h: Header, from: usize, fits: bool, base: usize, work: &mut [u8]) -> Taken
+fn take_run(
+    text: &[u8],
+    h: Header,
+    from: usize,
+    fits: bool,
+    base: usize,
+    work: &mut [u8],
+) -> Result<(Place, usize), DefinedTwice>
     requires { Counted text.now h from × NamesRoom (header_in h) fits base work.old }
     ensures taken_is { TakenIs text.now fits 0 work.old work.new result }
     ensures work_len_unchanged { length work.new ≡ length work.old }
@@ -345,10 +322,8 @@ fn take_run(text: &[u8], h: Header, from: usize, fits: bool, base: usize, work: 
         end: place.node,
         tree: false,
     };
-    match look_up(text, h, from, fits, base, window, work) {
-        Looked::Twice => Taken::Twice,
-        Looked::Found(found) => Taken::Is(place, found),
-    }
+    let found = look_up(text, h, from, fits, base, window, work)?;
+    Ok((place, found))
 }
 
 // How many literals the lines use.
@@ -374,31 +349,15 @@ pub fn names_right(
     ensures work_len_unchanged { length work.new ≡ length work.old }
 {
     let nodes = 1 + h.inputs + h.latches + h.gates;
-    let mut place = Place {
-        line: 0,
-        node: 0,
-        at: from,
+    let Ok((mut place, mut found)) = take_run(text, h, from, fits, base, &mut *work) else {
+        return false;
     };
-    let mut found = 0;
-    match take_run(text, h, from, fits, base, &mut *work) {
-        Taken::Twice => {
+    while place.node < nodes {
+        let Ok((next, uses)) = take_window(text, h, from, fits, base, place, &mut *work) else {
             return false;
-        }
-        Taken::Is(next, uses) => {
-            place = next;
-            found = uses;
-        }
-    }
-    'windows: while place.node < nodes {
-        match take_window(text, h, from, fits, base, place, &mut *work) {
-            Taken::Twice => {
-                return false;
-            }
-            Taken::Is(next, uses) => {
-                place = next;
-                found += uses;
-            }
-        }
+        };
+        place = next;
+        found += uses;
     }
     found == use_count(h)
 }

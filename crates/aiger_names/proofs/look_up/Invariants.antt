@@ -1,11 +1,7 @@
 -- `look_up` meets its contract. The loop's invariant: the lines before `line` are looked up, and it begins at `at`.
 -- Assumes nothing.
-use Prim.Native.Nat.{◌-◌}
 use Rattle.aiger_names.proofs.LookLaws.{LookTo}
 use Rattle.aiger_names.proofs.look_up.Given as goal
 
-abbrev pub invariant-lines : goal.invariant-lines
-invariant-lines l = LookTo l.text l.fits l.base l.window l.initial.work l.work l.line l.at l.found
-
-abbrev pub decreases-lines : goal.decreases-lines
-decreases-lines l = l.lines - l.line
+abbrev pub invariant-loop-line : goal.invariant-loop-line
+invariant-loop-line l = LookTo l.text l.fits l.base l.window l.initial.work l.work l.line l.at l.found

@@ -6,8 +6,8 @@ use lib.ListN.{length}
 use Rattle.aiger_names.proofs.TakeLaws.{Taking}
 use Rattle.aiger_names.proofs.names_right.Given as goal
 
-abbrev pub invariant-windows : goal.invariant-windows
-invariant-windows l = Taking l.text l.h l.fits l.base l.work l.place l.found × (length l.work ≡ length l.initial.work)
+abbrev pub invariant-loop-place : goal.invariant-loop-place
+invariant-loop-place l = Taking l.text l.h l.fits l.base l.work l.place l.found × (length l.work ≡ length l.initial.work)
 
-abbrev pub decreases-windows : goal.decreases-windows
-decreases-windows l = l.nodes - l.place.node
+abbrev pub decreases-loop-place : goal.decreases-loop-place
+decreases-loop-place l = l.nodes - l.place.node
