@@ -1,13 +1,13 @@
 -- The labels of the original's rows, and that each row that the fold kept has one of them.
 -- Assumes nothing.
-use Prim.Native.Nat.{ℕ, zero, suc, ◌+◌, ◌-◌, ◌*◌, ◌<◌, ◌≤◌}
+use Prim.Native.Nat.{ℕ, zero, suc, ◌+◌, ◌*◌, ◌<◌, ◌≤◌}
 use mathlib.Core.Path.{◌≡◌, refl, sym, ap, ◌∙◌, subst}
 use mathlib.Core.Bool.{Bool, true, false, cond, ◌||◌}
 use mathlib.Core.List.{List}
 use native.Mathlib.Omega.{arith}
 use native.Mathlib.Nat.{mul-le-mul}
 use native.Mathlib.Numerals.{add-one}
-use lib.ListN.{length, replicate, length-replicate}
+use lib.ListN.{length}
 use lib.Seq.{take-length}
 use lib.Dec.{eqb}
 use borrow.Author.Tests.{eqb-true, eq-eqb}
@@ -21,11 +21,8 @@ use Rattle.netlist.specs.FileFormat.{netlist_of}
 use Rattle.netlist.specs.RunLayout.{place_among}
 use Rattle.netlist.specs.WellFormed.{NamesUnique}
 use Rattle.netlist.proofs.RowLaws.{named-is, named-of, unknown-is, has-at, has_of}
-use Rattle.trace_columns.specs.Columns.{wanted_row, LabelsListed, ColumnsOf, MapReady}
-use Rattle.trace_values.specs.Pairs.{FoldedPair, phases_of, Mapped}
-
-pub zeros-again : (n : ℕ) (w : List ℕ) → w ≡ replicate n 0 → w ≡ replicate (length w) 0
-zeros-again n w e = e ∙ ap (λ (k : ℕ). replicate k 0) (sym (ap length e ∙ length-replicate n 0))
+use Rattle.trace_columns.specs.Columns.{wanted_row, LabelsListed, MapReady}
+use Rattle.trace_values.specs.Pairs.{FoldedPair, phases_of}
 
 -- The row at place i of those that f counts.
 abbrev AtPlace : (Row → Bool) → List Row → ℕ → ℕ → Type 0
@@ -145,6 +142,3 @@ module _ (file folded : List ℕ) (n m N : ℕ) (F : FoldedPair file folded n m 
   module _ (u : Bool) (labels columns : List ℕ) (long : 2016 ≤ length labels) (room : fold_work_bytes ≤ length columns) (count : ℕ) (L : LabelsListed (wanted_row u) original n labels) (c : count ≡ count_if (wanted_row u) original) where
     pub columns-ready : (p : ℕ) → p ≡ phases_of u N → MapReady (wanted_row u) kept p labels count columns
     columns-ready p e = subst (λ (q : ℕ). MapReady (wanted_row u) kept q labels count columns) (sym e) (ready u labels L long columns room count c)
-
-  pub mapped : (u : Bool) (labels columns : List ℕ) (count : ℕ) → count ≡ count_if (wanted_row u) original → LabelsListed (wanted_row u) original n labels → fold_work_bytes ≤ length columns → (p : ℕ) → p ≡ phases_of u N → ColumnsOf (wanted_row u) kept m p labels count columns → Mapped file folded n m N u labels columns count
-  mapped u labels columns count c L room p e C = record { count-is = c; lists = L; maps = subst (λ (q : ℕ). ColumnsOf (wanted_row u) kept m q labels count columns) e C; room = room }

@@ -81,12 +81,6 @@ module _ (file folded : List ℕ) (n m N : ℕ) (F : FoldedPair file folded n m 
 -- ---- choices, then inputs
 
 module _ (file folded : List ℕ) (n m N : ℕ) (F : FoldedPair file folded n m N) (kept T : ℕ) (choices inputs trace : List ℕ) (to : ℕ) (G : TraceGiven (netlist_of file) (netlist_of folded) N kept T choices inputs trace to) where
-  -- The memory is as long after the choices as before.
-  pub inputs-given : (t : List ℕ) → length t ≡ length trace → InputsGiven (netlist_of file) (netlist_of folded) N kept T inputs t to
-  inputs-given t long =
-      let I = G.inputs-given in
-      record { kept-is = I.kept-is; groups = I.groups; binary = I.binary; room = omega (arith, I.room); few-steps = I.few-steps; few-before = I.few-before }
-
   abbrev run : RunValues
   run = traced_values N (netlist_of folded) (values_from_bytes (netlist_of folded) choices inputs)
 
