@@ -1,5 +1,5 @@
 // Rows of a file as values, read from their places in the blocks and put there.
-use crate::bytes::{byte, field, put_byte, put_field};
+use crate::bytes::{field, item, put_field, put_item};
 
 // What a file may have.
 pub const MOST_BYTES: usize = 262144;
@@ -13,7 +13,7 @@ const BYTE_BOUND: usize = 263168;
 
 pub const ROW_BOUND: usize = 32382;
 
-#[derive(Clone, Copy)]
+#[derive(Clone, Copy, Debug, PartialEq, Eq)]
 pub struct Row {
     pub kind: u8,
     pub reset: u8,
@@ -30,31 +30,24 @@ pub fn start_of(row: usize) -> usize {
 }
 
 pub fn kind_at(file: &[u8], row: usize) -> u8 {
-    byte(file, start_of(row))
+    item(file, start_of(row))
 }
 
 pub fn row_at(file: &[u8], row: usize) -> Row {
-    let start = start_of(row);
-    let from = start % BYTE_BOUND;
-    let kind = byte(file, from);
-    let reset = byte(file, from + 1);
-    let a = field(file, from + 2);
-    let b = field(file, from + 4);
-    let c = field(file, from + 6);
+    let from = start_of(row) % BYTE_BOUND;
     Row {
-        kind: kind,
-        reset: reset,
-        a: a,
-        b: b,
-        c: c,
+        kind: item(file, from),
+        reset: item(file, from + 1),
+        a: field(file, from + 2),
+        b: field(file, from + 4),
+        c: field(file, from + 6),
     }
 }
 
 pub fn put_row(file: &mut [u8], at: usize, row: Row) {
-    let start = start_of(at);
-    let from = start % BYTE_BOUND;
-    put_byte(file, from, row.kind);
-    put_byte(file, from + 1, row.reset);
+    let from = start_of(at) % BYTE_BOUND;
+    put_item(file, from, row.kind);
+    put_item(file, from + 1, row.reset);
     put_field(file, from + 2, row.a);
     put_field(file, from + 4, row.b);
     put_field(file, from + 6, row.c);
@@ -62,10 +55,8 @@ pub fn put_row(file: &mut [u8], at: usize, row: Row) {
 
 // How many rows a file of right blocks has.
 pub fn rows_of(file: &[u8]) -> usize {
-    let blocks = file.len() / 512;
-    let before = std::num::wrapping_sub_usize(blocks, 1) % BLOCK_BOUND;
-    let last = byte(file, 512 * before + 2) as usize;
-    63 * before + last
+    let before = (file.len() / 512).wrapping_sub(1) % BLOCK_BOUND;
+    63 * before + usize::from(item(file, 512 * before + 2))
 }
 
 // The bytes of a file of so many rows.
@@ -80,16 +71,10 @@ pub fn work_for(rows: usize) -> usize {
 }
 
 pub fn node_of(literal: u16) -> usize {
-    (literal / 2) as usize
+    usize::from(literal / 2)
 }
 
 // How many of the first rows have this kind.
 pub fn count_kind(file: &[u8], rows: usize, kind: u8) -> usize {
-    let mut count: usize = 0;
-    'rows: for row in 0..rows {
-        if kind_at(file, row) == kind {
-            count = crate::bytes::after(count);
-        }
-    }
-    count
+    (0..rows).filter(|&row| kind_at(file, row) == kind).count()
 }

@@ -1,27 +1,19 @@
 // Values 0, 1 and 2 (unknown) of gates and literals. Where none is unknown these are the two-valued rules.
-use crate::bytes::byte;
+use crate::bytes::item;
 use crate::rows::{Row, node_of};
 
 pub fn and3(x: u8, y: u8) -> u8 {
-    let low = x == 0 || y == 0;
-    let high = x == 1 && y == 1;
-    if low {
-        0
-    } else if high {
-        1
-    } else {
-        2
+    match (x, y) {
+        (0, _) | (_, 0) => 0,
+        (1, 1) => 1,
+        _ => 2,
     }
 }
 
 pub fn xor3(x: u8, y: u8) -> u8 {
-    let open = x == 2 || y == 2;
-    if open {
-        2
-    } else if x == y {
-        0
-    } else {
-        1
+    match (x, y) {
+        (2, _) | (_, 2) => 2,
+        _ => u8::from(x != y),
     }
 }
 
@@ -29,12 +21,13 @@ pub fn mux3(selector: u8, high: u8, low: u8) -> u8 {
     match selector {
         0 => low,
         1 => high,
-        _ => if high == low { high } else { 2 },
+        _ if high == low => high,
+        _ => 2,
     }
 }
 
 pub fn literal_value(values: &[u8], literal: u16) -> u8 {
-    let plain = byte(values, node_of(literal));
+    let plain = item(values, node_of(literal));
     if literal % 2 == 0 {
         return plain;
     }
@@ -50,8 +43,7 @@ pub fn gate_value(values: &[u8], row: Row) -> u8 {
     let x = literal_value(values, row.a);
     let y = literal_value(values, row.b);
     let z = literal_value(values, row.c);
-    let kind = row.kind;
-    match kind {
+    match row.kind {
         3 => and3(x, y),
         4 => xor3(x, y),
         5 => mux3(x, y, z),
