@@ -1,11 +1,10 @@
 // The three-valued run: a byte for each register and state, the first equal pair of states, generators and the phase count.
-use reference_rows::bytes::{after, byte, put_byte, put_word, word};
+use reference_rows::bytes::{after, item, put_item};
 use reference_rows::rows::{Row, kind_at, row_at};
 use reference_rows::values::{gate_value, literal_value};
 
-#[derive(Clone, Copy)]
+#[derive(Clone, Copy, Debug, PartialEq, Eq)]
 pub struct Lasso {
-    pub found: bool,
     pub stem: usize,
     pub cycle: usize,
 }
@@ -20,53 +19,48 @@ fn list_register(file: &[u8], row: usize, registers: &mut [u16], count: usize) -
     if kind_at(file, row) != 2 {
         return count;
     }
-    let number = (row % 65536) as u16;
-    put_word(registers, count, number);
+    put_item(registers, count, (row % 65536) as u16);
     after(count)
 }
 
 // The rows of the registers, in order; their number is the answer.
 pub fn list_registers(file: &[u8], rows: usize, registers: &mut [u16]) -> usize {
     let mut count: usize = 0;
-    'rows: for row in 0..rows {
+    for row in 0..rows {
         count = list_register(file, row, registers, count);
     }
     count
 }
 
 pub fn put_resets(file: &[u8], registers: &[u16], count: usize, states: &mut [u8]) {
-    'registers: for j in 0..count {
-        let at = word(registers, j) as usize;
-        let row = row_at(file, at);
-        put_byte(states, cell(0, j), row.reset);
+    for j in 0..count {
+        let row = row_at(file, item(registers, j).into());
+        put_item(states, cell(0, j), row.reset);
     }
 }
 
 // ---- a step
 
 fn load_state(registers: &[u16], count: usize, states: &[u8], state: usize, values: &mut [u8]) {
-    'registers: for j in 0..count {
-        let at = word(registers, j) as usize;
-        let held = byte(states, cell(state, j));
-        put_byte(values, at, held);
+    for j in 0..count {
+        let held = item(states, cell(state, j));
+        put_item(values, item(registers, j).into(), held);
     }
 }
 
 // Constant, inputs and gates; a register keeps the value that it holds.
 fn value_of(row: Row, at: usize, values: &[u8]) -> u8 {
-    let kind = row.kind;
-    match kind {
-        2 => byte(values, at),
+    match row.kind {
+        2 => item(values, at),
         1 => 2,
         _ => gate_value(values, row),
     }
 }
 
 fn put_values(file: &[u8], rows: usize, values: &mut [u8]) {
-    'rows: for at in 0..rows {
-        let row = row_at(file, at);
-        let value = value_of(row, at, values);
-        put_byte(values, at, value);
+    for at in 0..rows {
+        let value = value_of(row_at(file, at), at, values);
+        put_item(values, at, value);
     }
 }
 
@@ -78,32 +72,21 @@ fn store_state(
     states: &mut [u8],
     state: usize,
 ) {
-    'registers: for j in 0..count {
-        let at = word(registers, j) as usize;
-        let row = row_at(file, at);
-        put_byte(states, cell(state, j), literal_value(values, row.a));
+    for j in 0..count {
+        let row = row_at(file, item(registers, j).into());
+        put_item(states, cell(state, j), literal_value(values, row.a));
     }
 }
 
 // ---- the lasso
 
 fn same_state(states: &[u8], first: usize, second: usize, count: usize) -> bool {
-    'registers: for j in 0..count {
-        if byte(states, cell(first, j)) != byte(states, cell(second, j)) {
-            return false;
-        }
-    }
-    true
+    (0..count).all(|j| item(states, cell(first, j)) == item(states, cell(second, j)))
 }
 
-// The first state before m that equals state m, or m.
-fn first_same(states: &[u8], m: usize, count: usize) -> usize {
-    'states: for n in 0..m {
-        if same_state(states, n, m, count) {
-            return n;
-        }
-    }
-    m
+// The first state before m that equals state m.
+fn first_same(states: &[u8], m: usize, count: usize) -> Option<usize> {
+    (0..m).find(|&n| same_state(states, n, m, count))
 }
 
 pub fn find_lasso(
@@ -113,27 +96,20 @@ pub fn find_lasso(
     count: usize,
     states: &mut [u8],
     values: &mut [u8],
-) -> Lasso {
+) -> Option<Lasso> {
     put_resets(file, registers, count, states);
-    'states: for m in 1..257 {
-        let before = std::num::wrapping_sub_usize(m, 1);
-        load_state(registers, count, states, before, values);
+    for m in 1..257 {
+        load_state(registers, count, states, m - 1, values);
         put_values(file, rows, values);
         store_state(file, registers, count, values, states, m);
-        let n = first_same(states, m, count);
-        if n < m {
-            return Lasso {
-                found: true,
-                stem: n,
-                cycle: m - n,
-            };
+        if let Some(stem) = first_same(states, m, count) {
+            return Some(Lasso {
+                stem,
+                cycle: m.wrapping_sub(stem),
+            });
         }
     }
-    Lasso {
-        found: false,
-        stem: 0,
-        cycle: 0,
-    }
+    None
 }
 
 // ---- generators
@@ -143,40 +119,27 @@ fn rest_of(x: usize, y: usize) -> usize {
 }
 
 pub fn divides(x: usize, y: usize) -> bool {
-    let some = x != 0;
-    some && rest_of(y, x) == 0
+    x != 0 && y % x == 0
 }
 
 fn ever_unknown(states: &[u8], m: usize, j: usize) -> bool {
-    'states: for t in 0..m {
-        if byte(states, cell(t, j)) == 2 {
-            return true;
-        }
-    }
-    false
+    (0..m).any(|t| item(states, cell(t, j)) == 2)
 }
 
 // Whether register j is at each t below m what it is at t mod p.
 fn repeats(states: &[u8], m: usize, j: usize, p: usize) -> bool {
-    'states: for t in 0..m {
-        let back = rest_of(t, p);
-        if byte(states, cell(t, j)) != byte(states, cell(back, j)) {
-            return false;
-        }
-    }
-    true
+    (0..m).all(|t| item(states, cell(t, j)) == item(states, cell(rest_of(t, p), j)))
 }
 
 // The least length of a generator of register j, or 0 if it has none.
 fn period_of(states: &[u8], lasso: Lasso, j: usize) -> u16 {
-    let m = std::num::wrapping_add_usize(lasso.stem, lasso.cycle);
+    let m = lasso.stem.wrapping_add(lasso.cycle);
     let end = after(lasso.cycle);
     if ever_unknown(states, m, j) {
         return 0;
     }
-    'lengths: for p in 1..end {
-        let whole = divides(p, lasso.cycle);
-        if whole && repeats(states, m, j, p) {
+    for p in 1..end {
+        if divides(p, lasso.cycle) && repeats(states, m, j, p) {
             return (p % 65536) as u16;
         }
     }
@@ -184,27 +147,22 @@ fn period_of(states: &[u8], lasso: Lasso, j: usize) -> u16 {
 }
 
 pub fn put_periods(states: &[u8], lasso: Lasso, count: usize, periods: &mut [u16]) {
-    'registers: for j in 0..count {
-        put_word(periods, j, period_of(states, lasso, j));
+    for j in 0..count {
+        put_item(periods, j, period_of(states, lasso, j));
     }
 }
 
 // How many registers have a period that divides n.
 pub fn count_dividing(periods: &[u16], count: usize, n: usize) -> usize {
-    let mut dividing: usize = 0;
-    'registers: for j in 0..count {
-        let period = word(periods, j) as usize;
-        if divides(period, n) {
-            dividing = after(dividing);
-        }
-    }
-    dividing
+    (0..count)
+        .filter(|&j| divides(item(periods, j).into(), n))
+        .count()
 }
 
 fn commonest(periods: &[u16], count: usize) -> usize {
-    let mut best: usize = 1;
-    let mut most: usize = 0;
-    'numbers: for n in 1..9 {
+    let mut best = 1;
+    let mut most = 0;
+    for n in 1..9 {
         let dividing = count_dividing(periods, count, n);
         if dividing > most {
             most = dividing;
