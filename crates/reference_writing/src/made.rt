@@ -1,7 +1,7 @@
 // The rows that are made, five words each, and the gates that are spared.
 ghost use Rattle.std.specs.Prelude.{◌<◌};
 
-use reference_rows::bytes::{after, put_word, word};
+use reference_rows::bytes::{after, item, put_item};
 use reference_rows::rows::Row;
 
 // A literal, and how many rows there are after it was made.
@@ -20,43 +20,34 @@ fn base_of(row: usize) -> usize
 
 pub fn made_row(made: &[u16], row: usize) -> Row {
     let base = base_of(row);
-    let kind = (word(made, base) % 256) as u8;
-    let reset = (word(made, base + 1) % 256) as u8;
-    let a = word(made, base + 2);
-    let b = word(made, base + 3);
-    let c = word(made, base + 4);
     Row {
-        kind: kind,
-        reset: reset,
-        a: a,
-        b: b,
-        c: c,
+        kind: (item(made, base) % 256) as u8,
+        reset: (item(made, base + 1) % 256) as u8,
+        a: item(made, base + 2),
+        b: item(made, base + 3),
+        c: item(made, base + 4),
     }
 }
 
 pub fn put_made(made: &mut [u16], at: usize, row: Row) {
     let base = base_of(at);
-    put_word(made, base, row.kind as u16);
-    put_word(made, base + 1, row.reset as u16);
-    put_word(made, base + 2, row.a);
-    put_word(made, base + 3, row.b);
-    put_word(made, base + 4, row.c);
+    put_item(made, base, row.kind.into());
+    put_item(made, base + 1, row.reset.into());
+    put_item(made, base + 2, row.a);
+    put_item(made, base + 3, row.b);
+    put_item(made, base + 4, row.c);
 }
 
 pub fn make(made: &mut [u16], rows: usize, row: Row) -> Made {
     put_made(made, rows, row);
-    let literal = (2 * (rows % 32768)) as u16;
     Made {
-        literal: literal,
+        literal: (2 * (rows % 32768)) as u16,
         rows: after(rows),
     }
 }
 
 pub fn spared(literal: u16, rows: usize) -> Made {
-    Made {
-        literal: literal,
-        rows: rows,
-    }
+    Made { literal, rows }
 }
 
 pub fn inverse(literal: u16) -> u16 {
@@ -67,39 +58,28 @@ fn plain(literal: u16) -> u16 {
     literal - literal % 2
 }
 
-fn least(x: u16, y: u16) -> u16 {
-    if x < y { x } else { y }
-}
-
-fn greatest(x: u16, y: u16) -> u16 {
-    if x < y { y } else { x }
-}
-
 fn gate(kind: u8, a: u16, b: u16, c: u16) -> Row {
     Row {
-        kind: kind,
+        kind,
         reset: 0,
-        a: a,
-        b: b,
-        c: c,
+        a,
+        b,
+        c,
     }
 }
 
 // With the smaller literal first, a constant operand is the first.
 pub fn make_and(made: &mut [u16], rows: usize, x: u16, y: u16) -> Made {
-    let first = least(x, y);
-    let second = greatest(x, y);
+    let first = x.min(y);
+    let second = x.max(y);
     if first == second {
         return spared(first, rows);
     }
-    if first == 0 {
+    if first == 0 || inverse(first) == second {
         return spared(0, rows);
     }
     if first == 1 {
         return spared(second, rows);
-    }
-    if inverse(first) == second {
-        return spared(0, rows);
     }
     make(made, rows, gate(3, first, second, 0))
 }
@@ -107,8 +87,8 @@ pub fn make_and(made: &mut [u16], rows: usize, x: u16, y: u16) -> Made {
 // The signs are taken off first: what is left is an XOR of plain literals.
 pub fn make_xor(made: &mut [u16], rows: usize, x: u16, y: u16) -> Made {
     let sign = (x % 2 + y % 2) % 2;
-    let first = least(plain(x), plain(y));
-    let second = greatest(plain(x), plain(y));
+    let first = plain(x).min(plain(y));
+    let second = plain(x).max(plain(y));
     if first == second {
         return spared(sign, rows);
     }
@@ -123,10 +103,7 @@ pub fn make_xor(made: &mut [u16], rows: usize, x: u16, y: u16) -> Made {
 }
 
 pub fn make_mux(made: &mut [u16], rows: usize, selector: u16, high: u16, low: u16) -> Made {
-    if high == low {
-        return spared(low, rows);
-    }
-    if selector == 0 {
+    if high == low || selector == 0 {
         return spared(low, rows);
     }
     if selector == 1 {
