@@ -1,6 +1,6 @@
 // Image literals of every row in every phase, and the rows made for them.
 use reference_lasso::clocks::power;
-use reference_rows::bytes::{put_word, word};
+use reference_rows::bytes::{item, put_item};
 use reference_rows::rows::{Row, node_of, row_at};
 use reference_writing::made::{Made, inverse, make, spared};
 
@@ -10,7 +10,7 @@ fn slot(phase: usize, row: usize) -> usize {
 }
 
 fn image(images: &[u16], phase: usize, literal: u16) -> u16 {
-    let whole = word(images, slot(phase, node_of(literal)));
+    let whole = item(images, slot(phase, node_of(literal)));
     if literal % 2 == 0 {
         whole
     } else {
@@ -67,8 +67,7 @@ fn gate_image(made: &mut [u16], rows: usize, row: Row, phase: usize, images: &[u
     let x = image(images, phase, row.a);
     let y = image(images, phase, row.b);
     let z = image(images, phase, row.c);
-    let kind = row.kind;
-    match kind {
+    match row.kind {
         5 => reference_writing::made::make_mux(made, rows, x, y, z),
         4 => reference_writing::made::make_xor(made, rows, x, y),
         _ => reference_writing::made::make_and(made, rows, x, y),
@@ -83,8 +82,7 @@ fn row_image(
     phase: usize,
     images: &[u16],
 ) -> Made {
-    let kind = row.kind;
-    match kind {
+    match row.kind {
         1 => make_input(made, rows, row, phase),
         2 => register_image(made, rows, row, clock, phase, images),
         3 | 4 | 5 => gate_image(made, rows, row, phase, images),
@@ -103,11 +101,11 @@ fn put_phase(
     rows: usize,
 ) -> usize {
     let mut sofar = rows;
-    'rows: for at in 0..count {
+    for at in 0..count {
         let row = row_at(file, at);
-        let clock = word(fixed, at);
+        let clock = item(fixed, at);
         let new = row_image(made, sofar, row, clock, phase, images);
-        put_word(images, slot(phase, at), new.literal);
+        put_item(images, slot(phase, at), new.literal);
         sofar = new.rows;
     }
     sofar
@@ -122,8 +120,8 @@ fn put_phases(
     images: &mut [u16],
     made: &mut [u16],
 ) -> usize {
-    let mut sofar: usize = 1;
-    'phases: for phase in 0..phases {
+    let mut sofar = 1;
+    for phase in 0..phases {
         sofar = put_phase(file, count, fixed, phase, images, made, sofar);
     }
     sofar
@@ -143,13 +141,9 @@ fn put_next(row: Row, new: u16, next: u16, made: &mut [u16]) {
 
 // A row that is no register, or whose register is known, has none.
 fn put_row_next(row: Row, clock: u16, new: u16, next: u16, made: &mut [u16]) {
-    if row.kind != 2 {
-        return;
+    if row.kind == 2 && clock == 0 {
+        put_next(row, new, next, made);
     }
-    if clock != 0 {
-        return;
-    }
-    put_next(row, new, next, made);
 }
 
 // The next values of the new registers.
@@ -161,12 +155,12 @@ fn put_nexts(
     images: &[u16],
     made: &mut [u16],
 ) {
-    let last = std::num::wrapping_sub_usize(phases, 1);
-    'rows: for at in 0..count {
+    let last = phases.wrapping_sub(1);
+    for at in 0..count {
         let row = row_at(file, at);
-        let new = word(images, slot(0, at));
+        let new = item(images, slot(0, at));
         let next = image(images, last, row.a);
-        put_row_next(row, word(fixed, at), new, next, made);
+        put_row_next(row, item(fixed, at), new, next, made);
     }
 }
 
@@ -182,8 +176,7 @@ fn put_output(made: &mut [u16], rows: usize, row: Row, phase: usize, literal: u1
         b: row.b,
         c: phase_field(phase),
     };
-    let new = make(made, rows, output);
-    new.rows
+    make(made, rows, output).rows
 }
 
 // The outputs of one phase.
@@ -196,7 +189,7 @@ fn put_outputs(
     rows: usize,
 ) -> usize {
     let mut sofar = rows;
-    'rows: for at in 0..count {
+    for at in 0..count {
         let row = row_at(file, at);
         let literal = image(images, phase, row.a);
         sofar = put_output(made, sofar, row, phase, literal);
@@ -213,7 +206,7 @@ fn put_all_outputs(
     rows: usize,
 ) -> usize {
     let mut sofar = rows;
-    'phases: for phase in 0..phases {
+    for phase in 0..phases {
         sofar = put_outputs(file, count, phase, images, made, sofar);
     }
     sofar
