@@ -1,9 +1,8 @@
 // Import as it is said: the lines stand in a table, the definitions in a list in the order of the rows, and each name is
 // looked for in the whole list.
-use crate::sorting::{Sorted, refused};
-use reference_lines::cell;
-use reference_questions::said;
-use reference_rows::bytes::{after, number, put_number};
+use reference_lines::{TextRefusal, cell};
+use reference_questions::{Refusal, said};
+use reference_rows::bytes::{after, item, put_item};
 use reference_rows::rows::{MOST_BYTES, MOST_ROWS, Row, put_row};
 
 // The answer to a text of more lines than the table has room for.
@@ -33,11 +32,11 @@ pub fn heading_of(table: &[u32]) -> Heading {
 }
 
 fn plus(x: usize, y: usize) -> usize {
-    std::num::wrapping_add_usize(x, y)
+    x.wrapping_add(y)
 }
 
 fn minus(x: usize, y: usize) -> usize {
-    std::num::wrapping_sub_usize(x, y)
+    x.wrapping_sub(y)
 }
 
 // How many nodes there are, the constant among them.
@@ -65,14 +64,11 @@ pub fn kind_of(heading: Heading, line: usize) -> u8 {
 
 // An even literal of 2 to 2M.
 fn definition_right(literal: u32, maximum: u32) -> bool {
-    let variable = literal / 2;
-    let even = literal % 2 == 0;
-    even && variable >= 1 && variable <= maximum
+    literal % 2 == 0 && (1..=maximum).contains(&(literal / 2))
 }
 
 fn latch_right(count: u32, literal: u32, reset: u32) -> bool {
-    let known = reset < 2 || reset == literal;
-    count == 2 || (count == 3 && known)
+    count == 2 || count == 3 && (reset < 2 || reset == literal)
 }
 
 fn line_right(table: &[u32], heading: Heading, line: usize) -> bool {
@@ -89,12 +85,7 @@ fn line_right(table: &[u32], heading: Heading, line: usize) -> bool {
 }
 
 fn lines_right(table: &[u32], heading: Heading, count: usize) -> bool {
-    'lines: for line in 0..count {
-        if !line_right(table, heading, after(line)) {
-            return false;
-        }
-    }
-    true
+    (0..count).all(|before| line_right(table, heading, after(before)))
 }
 
 // ---- names
@@ -104,42 +95,31 @@ fn put_name(table: &[u32], heading: Heading, line: usize, names: &mut [u32], at:
     if kind_of(heading, line) == 6 {
         return at;
     }
-    put_number(names, at, cell(table, line, 1));
+    put_item(names, at, cell(table, line, 1));
     after(at)
 }
 
 // The literals of all nodes: the constant's, then the definitions of inputs, latches and gates.
 pub fn put_names(table: &[u32], heading: Heading, count: usize, names: &mut [u32]) {
-    let mut next: usize = 1;
-    put_number(names, 0, 0);
-    'lines: for before in 0..count {
+    let mut next = 1;
+    put_item(names, 0, 0);
+    for before in 0..count {
         next = put_name(table, heading, after(before), names, next);
     }
 }
 
-// The first node with this name, or the number of nodes.
-fn node_named(names: &[u32], nodes: usize, name: u32) -> usize {
-    'names: for node in 0..nodes {
-        if number(names, node) == name {
-            return node;
-        }
-    }
-    nodes
+// The first node with this name.
+fn node_named(names: &[u32], nodes: usize, name: u32) -> Option<usize> {
+    (0..nodes).find(|&node| item(names, node) == name)
 }
 
 fn is_defined(names: &[u32], nodes: usize, literal: u32) -> bool {
-    let name = literal - literal % 2;
-    node_named(names, nodes, name) < nodes
+    node_named(names, nodes, literal - literal % 2).is_some()
 }
 
 // Whether each node is the first with its name.
 fn all_once(names: &[u32], nodes: usize) -> bool {
-    'nodes: for node in 0..nodes {
-        if node_named(names, nodes, number(names, node)) != node {
-            return false;
-        }
-    }
-    true
+    (0..nodes).all(|node| node_named(names, nodes, item(names, node)) == Some(node))
 }
 
 // The literals that a line uses; the constant where there are fewer than two.
@@ -150,45 +130,26 @@ pub struct Uses {
 }
 
 pub fn uses_of(table: &[u32], heading: Heading, line: usize) -> Uses {
-    let one = cell(table, line, 1);
-    let two = cell(table, line, 2);
-    let three = cell(table, line, 3);
-    match kind_of(heading, line) {
-        1 => Uses {
-            first: 0,
-            second: 0,
-        },
-        2 => Uses {
-            first: two,
-            second: 0,
-        },
-        6 => Uses {
-            first: one,
-            second: 0,
-        },
-        _ => Uses {
-            first: two,
-            second: three,
-        },
-    }
+    let (first, second) = match kind_of(heading, line) {
+        1 => (0, 0),
+        2 => (cell(table, line, 2), 0),
+        6 => (cell(table, line, 1), 0),
+        _ => (cell(table, line, 2), cell(table, line, 3)),
+    };
+    Uses { first, second }
 }
 
 fn all_defined(table: &[u32], heading: Heading, count: usize, names: &[u32], nodes: usize) -> bool {
-    'lines: for before in 0..count {
+    (0..count).all(|before| {
         let uses = uses_of(table, heading, after(before));
-        let first = is_defined(names, nodes, uses.first);
-        let second = is_defined(names, nodes, uses.second);
-        if !first || !second {
-            return false;
-        }
-    }
-    true
+        is_defined(names, nodes, uses.first) && is_defined(names, nodes, uses.second)
+    })
 }
 
-// The literal of the row whose name it is.
+// The literal of the row whose name it is; a literal that no line defines stands for the row after the last node.
 pub fn found(names: &[u32], nodes: usize, literal: u32) -> u16 {
     let name = literal - literal % 2;
-    let node = node_named(names, nodes, name) % 32768;
+    let node = node_named(names, nodes, name).unwrap_or(nodes) % 32768;
     (2 * node) as u16 + (literal % 2) as u16
 }
 
@@ -196,23 +157,20 @@ pub fn found(names: &[u32], nodes: usize, literal: u32) -> u16 {
 
 // A missing reset is 0, the latch itself is unknown.
 fn reset_of(count: u32, reset: u32) -> u8 {
-    if count == 2 {
-        0
-    } else {
-        match reset {
-            0 => 0,
-            1 => 1,
-            _ => 2,
-        }
+    match reset {
+        _ if count == 2 => 0,
+        0 => 0,
+        1 => 1,
+        _ => 2,
     }
 }
 
 fn cells(kind: u8, reset: u8, a: u16, b: u16) -> Row {
     Row {
-        kind: kind,
-        reset: reset,
-        a: a,
-        b: b,
+        kind,
+        reset,
+        a,
+        b,
         c: 0,
     }
 }
@@ -253,7 +211,7 @@ fn row_of(table: &[u32], heading: Heading, line: usize, names: &[u32]) -> Row {
 }
 
 fn put_rows(table: &[u32], heading: Heading, count: usize, names: &[u32], file: &mut [u8]) {
-    'lines: for before in 0..count {
+    for before in 0..count {
         let line = after(before);
         put_row(
             file,
@@ -269,51 +227,49 @@ fn sort_text(
     count: usize,
     names: &[u32],
     res: &mut [u8],
-) -> Sorted {
-    let mut room = reference_rows::rooms::file_bytes();
-    let file: &mut [u8] = &mut room;
-    put_rows(table, heading, count, names, file);
-    crate::sorting::sort_rows(file, after(count), res)
+) -> Result<u32, Refusal> {
+    let mut file = reference_rows::rooms::file_bytes();
+    put_rows(table, heading, count, names, &mut file);
+    crate::sorting::sort_rows(&file, after(count), res)
 }
 
 // ---- 23, 24, 25, 22
 
-// 24 or 0 for what the lines say.
-fn ask_lines(table: &[u32], heading: Heading, count: usize, names: &mut [u32]) -> u32 {
+// Whether the lines say a netlist: their names are listed.
+fn are_right(table: &[u32], heading: Heading, count: usize, names: &mut [u32]) -> bool {
     let nodes = nodes_of(heading);
-    let lines = heading.outputs >= 1 && lines_right(table, heading, count);
-    if !lines {
-        return 24;
+    if heading.outputs == 0 || !lines_right(table, heading, count) {
+        return false;
     }
     put_names(table, heading, count, names);
-    let once = all_once(names, nodes);
-    if once && all_defined(table, heading, count, names, nodes) {
-        0
-    } else {
-        24
+    all_once(names, nodes) && all_defined(table, heading, count, names, nodes)
+}
+
+fn of_text(refusal: TextRefusal) -> Refusal {
+    match refusal {
+        TextRefusal::Wrong => said(24, 0),
+        TextRefusal::TooLong => said(TOO_LONG, 0),
     }
 }
 
-fn import_text(text: &[u8], table: &mut [u32], names: &mut [u32], res: &mut [u8]) -> Sorted {
-    let lines = reference_lines::put_text(text, table);
-    if !lines.fits {
-        return refused(said(TOO_LONG, 0));
-    }
-    if !lines.right {
-        return refused(said(24, 0));
-    }
+fn import_text(
+    text: &[u8],
+    table: &mut [u32],
+    names: &mut [u32],
+    res: &mut [u8],
+) -> Result<u32, Refusal> {
+    let count = reference_lines::put_text(text, table).map_err(of_text)?;
     let heading = heading_of(table);
-    let asked = ask_lines(table, heading, lines.count, names);
-    if asked != 0 {
-        return refused(said(asked, 0));
+    if !are_right(table, heading, count, names) {
+        return Err(said(24, 0));
     }
-    if after(lines.count) > MOST_ROWS {
-        return refused(said(25, 0));
+    if after(count) > MOST_ROWS {
+        return Err(said(25, 0));
     }
-    sort_text(table, heading, lines.count, names, res)
+    sort_text(table, heading, count, names, res)
 }
 
-// Import: on success the result starts with the file and is zero after it; a refusal does not change it. Work is zero after
+// Import: on success the result starts with the file and is zero after it, and the answer is how many rows it has; a refusal does not change it. Work is zero after
 // both. The table has room for eight numbers for each line, the list of names for one.
 pub fn import(
     text: &[u8],
@@ -321,11 +277,10 @@ pub fn import(
     names: &mut [u32],
     res: &mut [u8],
     work: &mut [u8],
-) -> Sorted {
-    reference_rows::bytes::empty(work);
-    let short = res.len() < MOST_BYTES || work.len() < LEAST_WORK;
-    if short {
-        return refused(said(23, 0));
+) -> Result<u32, Refusal> {
+    work.fill(0);
+    if res.len() < MOST_BYTES || work.len() < LEAST_WORK {
+        return Err(said(23, 0));
     }
     import_text(text, table, names, res)
 }
