@@ -4,7 +4,7 @@
 
 use reference_import::importing::{Heading, found, kind_of};
 use reference_lines::{cell, put_cell};
-use reference_rows::bytes::{after, byte, put_byte};
+use reference_rows::bytes::{after, item, put_item};
 use reference_rows::values::{and3, literal_value};
 
 // A value that is not settled yet.
@@ -13,13 +13,13 @@ const OPEN: u8 = 2;
 // The literals that a line uses, by the places of their variables among the definitions, in columns 6 and 7.
 fn put_uses(table: &mut [u32], heading: Heading, count: usize, names: &[u32]) {
     let nodes = reference_import::importing::nodes_of(heading);
-    'lines: for before in 0..count {
+    for before in 0..count {
         let line = after(before);
         let uses = reference_import::importing::uses_of(table, heading, line);
         let first = found(names, nodes, uses.first);
         let second = found(names, nodes, uses.second);
-        put_cell(table, line, 6, first as u32);
-        put_cell(table, line, 7, second as u32);
+        put_cell(table, line, 6, first.into());
+        put_cell(table, line, 7, second.into());
     }
 }
 
@@ -31,7 +31,7 @@ fn use_value(table: &[u32], line: usize, column: usize, values: &[u8]) -> u8 {
 // The place of a line's variable among the definitions.
 fn variable_of(heading: Heading, line: usize) -> usize {
     if kind_of(heading, line) == 3 {
-        std::num::wrapping_sub_usize(line, heading.outputs)
+        line.wrapping_sub(heading.outputs)
     } else {
         line
     }
@@ -44,27 +44,20 @@ fn starts_as(table: &[u32], line: usize, choice: u8) -> u8 {
     if is_chosen(table, line) {
         return choice;
     }
-    let given = cell(table, line, 0) == 3;
-    if given && cell(table, line, 3) == 1 {
-        1
-    } else {
-        0
-    }
+    u8::from(cell(table, line, 0) == 3 && cell(table, line, 3) == 1)
 }
 
 fn is_chosen(table: &[u32], line: usize) -> bool {
-    let given = cell(table, line, 0) == 3;
-    given && cell(table, line, 3) == cell(table, line, 1)
+    cell(table, line, 0) == 3 && cell(table, line, 3) == cell(table, line, 1)
 }
 
 fn start(table: &[u32], heading: Heading, count: usize, choices: &[u8], held: &mut [u8]) {
-    let mut next: usize = 0;
-    'lines: for before in 0..count {
+    let mut next = 0;
+    for before in 0..count {
         let line = after(before);
-        let latch = kind_of(heading, line) == 2;
-        let value = starts_as(table, line, byte(choices, next));
-        put_byte(held, line, value);
-        if latch && is_chosen(table, line) {
+        let value = starts_as(table, line, item(choices, next));
+        put_item(held, line, value);
+        if kind_of(heading, line) == 2 && is_chosen(table, line) {
             next = after(next);
         }
     }
@@ -73,9 +66,9 @@ fn start(table: &[u32], heading: Heading, count: usize, choices: &[u8], held: &m
 // An input's value is given, a latch's held, a gate's open; an output has no variable.
 fn load_line(heading: Heading, line: usize, input: u8, held: &[u8], values: &mut [u8]) {
     match kind_of(heading, line) {
-        1 => put_byte(values, line, input),
-        2 => put_byte(values, line, byte(held, line)),
-        3 => put_byte(values, variable_of(heading, line), OPEN),
+        1 => put_item(values, line, input),
+        2 => put_item(values, line, item(held, line)),
+        3 => put_item(values, variable_of(heading, line), OPEN),
         _ => {}
     }
 }
@@ -89,17 +82,16 @@ fn load(
     held: &[u8],
     values: &mut [u8],
 ) {
-    put_byte(values, 0, 0);
-    'lines: for before in 0..count {
-        let input = byte(inputs, std::num::wrapping_add_usize(from, before));
+    put_item(values, 0, 0);
+    for before in 0..count {
+        let input = item(inputs, from.wrapping_add(before));
         load_line(heading, after(before), input, held, values);
     }
 }
 
 // Whether the line is a gate's and its value open.
 fn is_open(heading: Heading, line: usize, values: &[u8]) -> bool {
-    let gate = kind_of(heading, line) == 3;
-    gate && byte(values, variable_of(heading, line)) == OPEN
+    kind_of(heading, line) == 3 && item(values, variable_of(heading, line)) == OPEN
 }
 
 // An open gate's value by its equation, if its operands' are known; whether it stays open.
@@ -110,14 +102,14 @@ fn settle_line(table: &[u32], heading: Heading, line: usize, values: &mut [u8]) 
     let x = use_value(table, line, 6, values);
     let y = use_value(table, line, 7, values);
     let value = and3(x, y);
-    put_byte(values, variable_of(heading, line), value);
+    put_item(values, variable_of(heading, line), value);
     value == OPEN
 }
 
 // Each open gate once; whether one stays open.
 fn settle(table: &[u32], heading: Heading, count: usize, values: &mut [u8]) -> bool {
     let mut left = false;
-    'lines: for before in 0..count {
+    for before in 0..count {
         let stays = settle_line(table, heading, after(before), values);
         left = left || stays;
     }
@@ -126,7 +118,7 @@ fn settle(table: &[u32], heading: Heading, count: usize, values: &mut [u8]) -> b
 
 // A turn settles a gate at least, so as many turns as there are lines are enough.
 fn settle_all(table: &[u32], heading: Heading, count: usize, values: &mut [u8]) {
-    'turns: for turn in 0..count {
+    for _ in 0..count {
         if !settle(table, heading, count, values) {
             return;
         }
@@ -135,20 +127,19 @@ fn settle_all(table: &[u32], heading: Heading, count: usize, values: &mut [u8]) 
 
 // Every latch takes its next value.
 fn advance(table: &[u32], count: usize, values: &[u8], held: &mut [u8]) {
-    'lines: for before in 0..count {
+    for before in 0..count {
         let line = after(before);
-        put_byte(held, line, use_value(table, line, 6, values));
+        put_item(held, line, use_value(table, line, 6, values));
     }
 }
 
 // The values of the outputs, from `from` on.
 fn show(table: &[u32], heading: Heading, values: &[u8], shown: &mut [u8], from: usize) {
-    let outputs = heading.outputs;
-    let sources = std::num::wrapping_add_usize(heading.inputs, heading.latches);
-    'outputs: for position in 0..outputs {
-        let line = after(std::num::wrapping_add_usize(sources, position));
-        let at = std::num::wrapping_add_usize(from, position);
-        put_byte(shown, at, use_value(table, line, 6, values));
+    let sources = heading.inputs.wrapping_add(heading.latches);
+    for position in 0..heading.outputs {
+        let line = after(sources.wrapping_add(position));
+        let at = from.wrapping_add(position);
+        put_item(shown, at, use_value(table, line, 6, values));
     }
 }
 
@@ -180,18 +171,18 @@ fn run_steps(
     values: &mut [u8],
     shown: &mut [u8],
 ) {
-    let mut read: usize = 0;
-    let mut written: usize = 0;
-    'steps: for t in 0..steps {
+    let mut read = 0;
+    let mut written = 0;
+    for _ in 0..steps {
         take_step(
             table, heading, count, inputs, read, held, values, shown, written,
         );
-        read = std::num::wrapping_add_usize(read, heading.inputs);
-        written = std::num::wrapping_add_usize(written, heading.outputs);
+        read = read.wrapping_add(heading.inputs);
+        written = written.wrapping_add(heading.outputs);
     }
 }
 
-// The outputs of a text that is imported, step by step: `choices` has a value for each latch whose reset is itself, in their
+// The outputs of a text that is imported, step by step; of another text nothing is shown. `choices` has a value for each latch whose reset is itself, in their
 // order, `inputs` one for each input and step.
 pub fn run(
     text: &[u8],
@@ -202,15 +193,23 @@ pub fn run(
     table: &mut [u32],
     names: &mut [u32],
 ) {
-    let mut held_room = reference_rows::rooms::row_bytes();
-    let mut values_room = reference_rows::rooms::row_bytes();
-    let held: &mut [u8] = &mut held_room;
-    let values: &mut [u8] = &mut values_room;
-    let lines = reference_lines::put_text(text, table);
+    let mut held = reference_rows::rooms::row_bytes();
+    let mut values = reference_rows::rooms::row_bytes();
+    let Ok(count) = reference_lines::put_text(text, table) else {
+        return;
+    };
     let heading = reference_import::importing::heading_of(table);
-    let count = lines.count;
     reference_import::importing::put_names(table, heading, count, names);
     put_uses(table, heading, count, names);
-    start(table, heading, count, choices, held);
-    run_steps(table, heading, count, steps, inputs, held, values, shown);
+    start(table, heading, count, choices, &mut held);
+    run_steps(
+        table,
+        heading,
+        count,
+        steps,
+        inputs,
+        &mut held,
+        &mut values,
+        shown,
+    );
 }
