@@ -1,17 +1,17 @@
-// Bytes of a lent slice; past its end nothing is read or written.
+// Bytes and numbers of a lent slice; past its end nothing is read or written.
 ghost use Rattle.std.specs.Prelude.{◌≡◌, ◌<◌, ◌≤◌, length};
 
-// The byte at `at`, and 0 past the end.
-pub fn get(bytes: &[u8], at: usize) -> u8 {
-    bytes.get(at).copied().unwrap_or(0)
+// The byte or number at `at`, and 0 past the end.
+pub fn get<T: Copy + Default>(items: &[T], at: usize) -> T {
+    items.get(at).copied().unwrap_or_default()
 }
 
-// The byte at `at` becomes `value`.
-pub fn put(bytes: &mut [u8], at: usize, value: u8)
-    ensures { length bytes.new ≡ length bytes.old }
+// The byte or number at `at` becomes `value`.
+pub fn put<T: Copy>(items: &mut [T], at: usize, value: T)
+    ensures { length items.new ≡ length items.old }
 {
-    if at < bytes.len() {
-        bytes[at] = value;
+    if at < items.len() {
+        items[at] = value;
     }
 }
 

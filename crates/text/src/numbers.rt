@@ -1,4 +1,5 @@
 // Numbers in digits, read from bytes.
+use crate::bytes::get;
 
 pub const LARGEST: u32 = u32::MAX;
 
@@ -10,7 +11,7 @@ pub fn with_digit(value: u32, digit: u8, most: u32) -> u32 {
 
 // The number at `at`, and 0 past the end.
 pub fn number_at(numbers: &[u32], at: usize) -> u32 {
-    numbers.get(at).copied().unwrap_or(0)
+    get(numbers, at)
 }
 
 // The number whose digits all bytes are; one that is too large for its type is read as the largest.
