@@ -15,6 +15,7 @@ ghost use Rattle.accept.specs.Parts.{part_refusal, blocks_refusal, BlocksRight, 
 use blockfile::BLOCK_ROWS;
 use blockfile::count::Counts;
 use blocks::BlockRefusal;
+use name_marks::{FEW_MARK_BYTES, MARK_BYTES};
 use netlist::MOST_FILE_BYTES;
 use questions::Numbered;
 use row_questions::RowTests;
@@ -178,29 +179,18 @@ fn check_each_row(
     }
 }
 
-// With few bits.
-fn check_few_rows(file: &[u8], rows: usize, unordered: bool) -> Result<Accepted, FileRefusal>
-    requires { HasRows file.now rows }
+// With marks of so many bytes: few, or a bit for each slot.
+fn check_marked<const BYTES: usize>(
+    file: &[u8],
+    rows: usize,
+    unordered: bool,
+    few: bool,
+) -> Result<Accepted, FileRefusal>
+    requires { HasRows file.now rows × (mark_bytes few ≡ BYTES) }
     ensures { Answered (rows_refusal (operand_by unordered) (fields_of file.now)) (netlist_of file.now) result }
 {
-    let mut marks = [0u8; name_marks::FEW_MARK_BYTES];
-    check_each_row(file, rows, unordered, true, &mut marks)
-}
-
-// A bit for each slot.
-fn mark_room() -> [u8; name_marks::MARK_BYTES]
-    ensures { mark_bytes false ≡ length result }
-{
-    [0; name_marks::MARK_BYTES]
-}
-
-// With a bit for each slot.
-fn check_many_rows(file: &[u8], rows: usize, unordered: bool) -> Result<Accepted, FileRefusal>
-    requires { HasRows file.now rows }
-    ensures { Answered (rows_refusal (operand_by unordered) (fields_of file.now)) (netlist_of file.now) result }
-{
-    let mut marks = mark_room();
-    check_each_row(file, rows, unordered, false, &mut marks)
+    let mut marks = [0u8; BYTES];
+    check_each_row(file, rows, unordered, few, &mut marks)
 }
 
 // Questions 6 to 10 of all rows.
@@ -209,9 +199,9 @@ fn check_rows(file: &[u8], rows: usize, unordered: bool) -> Result<Accepted, Fil
     ensures { Answered (rows_refusal (operand_by unordered) (fields_of file.now)) (netlist_of file.now) result }
 {
     if rows <= BLOCK_ROWS {
-        check_few_rows(file, rows, unordered)
+        check_marked::<FEW_MARK_BYTES>(file, rows, unordered, true)
     } else {
-        check_many_rows(file, rows, unordered)
+        check_marked::<MARK_BYTES>(file, rows, unordered, false)
     }
 }
 
