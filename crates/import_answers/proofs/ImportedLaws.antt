@@ -6,6 +6,7 @@ use mathlib.Core.List.{List}
 use native.Mathlib.Omega.{arith}
 use lib.ListN.{length, replicate}
 use lib.Seq.{take_at}
+use Rattle.std.specs.Prelude.{Result, Err}
 use Rattle.netlist.specs.FileFormat.{blocks_for, file_of, file_in, file_left}
 use Rattle.netlist.proofs.FileLaws.{file-length}
 use Rattle.questions.specs.Questions.{no_refusal, unless_refused}
@@ -19,8 +20,6 @@ use Rattle.import_answers.specs.ImportAnswers.{import_refusal_in, importing_refu
 use Rattle.import_answers.specs.ImportOutcome.{LeftImported, Imported}
 use Rattle.import_answers.specs.declared.ImportRefusal.{ImportRefusal}
 use Rattle.import_answers.specs.declared.ImportRefusal.TheVariants.{Memory, Text, Rows, Loop}
-use Rattle.import_answers.specs.declared.Importing.{Importing}
-use Rattle.import_answers.specs.declared.Importing.TheVariants.{Refused}
 
 -- A refusal has a number.
 import-positive : (r : ImportRefusal) → 0 < (import_refusal_in r).number
@@ -30,7 +29,7 @@ import-positive Rows = omega arith
 import-positive (Loop i) = omega arith
 
 module _ (text result work work' : List ℕ) (clear : work' ≡ replicate (length work) 0) where
-  pub import-refused : (r : ImportRefusal) → import_refusal_in r ≡ import_refusal text (length result) (length work) → Imported text result result work work' (Refused r)
+  pub import-refused : (r : ImportRefusal) → import_refusal_in r ≡ import_refusal text (length result) (length work) → Imported text result result work work' (Err r)
   import-refused r e =
       let Some-number = number-some (import_refusal_in r) (import-positive r) in
       record {
@@ -42,7 +41,7 @@ module _ (text result work work' : List ℕ) (clear : work' ≡ replicate (lengt
         left = λ z. absurd (Some-number.1 z);
       }
 
-  module _ (result' : List ℕ) (answer : Importing) (e : importing_refusal answer ≡ import_refusal text (length result) (length work)) (count : rows_in answer ≡ unless_refused (importing_refusal answer) (length (text_rows text)) 0)
+  module _ (result' : List ℕ) (answer : Result ℕ ImportRefusal) (e : importing_refusal answer ≡ import_refusal text (length result) (length work)) (count : rows_in answer ≡ unless_refused (importing_refusal answer) (length (text_rows text)) 0)
       (written : result' ≡ unless_refused (importing_refusal answer) (file_in (sorted_netlist (text_rows text)) result) result) where
     guaranteed : importing_refusal answer ≡ no_refusal → ImportGuarantee text
     guaranteed z = import-guarantee text (length result) (length work) (sym e ∙ z)
