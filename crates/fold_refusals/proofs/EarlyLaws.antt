@@ -1,69 +1,35 @@
--- Questions 1 to 15: the phase of a row, the first row that has one, and the first no of the questions in order.
+-- Questions 1 to 15: the first row that has a phase, and the first no of the questions in order.
 -- Assumes nothing.
-use Prim.Native.Nat.{ℕ, zero, suc, ◌+◌, ◌<◌, ◌≤◌}
+use Prim.Native.Nat.{ℕ, ◌<◌, ◌≤◌}
 use mathlib.Core.Path.{◌≡◌, refl, sym, ap, ◌∙◌}
-use mathlib.Core.Bool.{Bool, true, false, cond, ◌&&◌}
+use mathlib.Core.Bool.{Bool, true, false, cond}
 use mathlib.Core.List.{List, [], ◌∷◌}
 use native.Mathlib.Omega.{arith}
 use native.Mathlib.Nat.{zero-add}
 use lib.ListN.{length}
+use Rattle.std.specs.Prelude.{Result, Ok, Err}
 use lib.Dec.{eqb, ltb, leb}
 use borrow.Author.Tests.{ltb-true, lt-ltb, le-ltb, le-leb, lt-leb, ne_eqb}
-use borrow.Author.Count.{below_more}
 use Rattle.memory.specs.Lists.{first_from, count_if}
 use Rattle.memory.proofs.ListLaws.{first-is, first-none, first_found}
-use Rattle.netlist.specs.Limits.{most_phases, most_original_rows, most_original_registers, fold_result_bytes, fold_work_bytes, fold_clock_entries}
-use Rattle.netlist.specs.Rows.{Row, RowFields, row_from_fields, decode_row, row_at, phase_of, is_register}
+use Rattle.netlist.specs.Limits.{most_original_rows, most_original_registers}
+use Rattle.netlist.specs.Rows.{Row, decode_row, row_at, phase_of, is_register}
 use Rattle.netlist.specs.FileFormat.{read_fields, netlist_of}
 use Rattle.questions.specs.Questions.{Refusal, no_refusal, question, item_questions, file_refusal, Counts, counts_of}
-use Rattle.fold_questions.specs.FoldQuestions.{phase_question, original_refusal, fold_memory_right, argument_questions}
+use Rattle.fold_questions.specs.FoldQuestions.{phase_question, original_refusal, argument_questions}
 use Rattle.questions.proofs.QuestionLaws.{list-next, all_yes, ◌then◌, number-none, question-of, list-stop, question-no}
 use Rattle.fold_questions.proofs.FoldAccepted.{phase_question-iff}
-use Rattle.blockfile.specs.declared.Fields.{Fields}
 use Rattle.blockfile.specs.declared.count.Counts as code
-use Rattle.blockfile.specs.RowCode.{fields_in}
 use Rattle.blockfile.specs.CountCode.{counts_in}
 use Rattle.blockfile.specs.Ready.{HasRows}
 use Rattle.accept.specs.declared.FileRefusal.{FileRefusal}
-use Rattle.accept.specs.declared.Acceptance.{Acceptance}
-use Rattle.accept.specs.declared.Acceptance.TheVariants.{Accepted, Refused}
+use Rattle.accept.specs.declared.Accepted.{Accepted}
 use Rattle.accept.specs.Refusals.{Answered}
 use Rattle.accept.proofs.RefusalLaws.{number-positive, accepted-none, refused-is}
-use Rattle.fold_refusals.specs.declared.asking.Asked.{Asked}
-use Rattle.fold_refusals.specs.declared.asking.Asked.TheVariants.{Passed, Stopped}
 use Rattle.fold_refusals.specs.declared.FoldRefusal.{FoldRefusal}
 use Rattle.fold_refusals.specs.declared.FoldRefusal.TheVariants.{File, Rows, Registers, Phase, Wish, Memory, NoLasso}
 use Rattle.fold_refusals.specs.EarlyAnswers.{has_phase, AnswersTo}
 use Rattle.fold_refusals.specs.FoldRefusals.{fold_refusal_in, early_refusal, Questioned}
-
--- ---- the phase of a row, from its fields
-
-module _ (f : Fields) (w : RowFields) (read : fields_in f ≡ w) where
-  phase-by : (p : ℕ) → p ≡ phase_of (decode_row (fields_in f)) → p ≡ phase_of (decode_row w)
-  phase-by p e = e ∙ ap (λ (w : RowFields). phase_of (decode_row w)) read
-
-  -- A row of kind k.
-  phase-at : (k p : ℕ) → f.kind ≡ k → p ≡ phase_of (row_from_fields k f.reset f.a f.b f.c) → p ≡ phase_of (decode_row w)
-  phase-at k p e q = phase-by p (q ∙ ap (λ (k : ℕ). phase_of (row_from_fields k f.reset f.a f.b f.c)) (sym e))
-
-  pub input-phase : f.kind ≡ 1 → f.b ≡ phase_of (decode_row w)
-  input-phase e = phase-at 1 f.b e refl
-
-  pub output-phase : f.kind ≡ 6 → f.c ≡ phase_of (decode_row w)
-  output-phase e = phase-at 6 f.c e refl
-
-  pub other-phase : (f.kind ≡ 1 → ⊥) → (f.kind ≡ 6 → ⊥) → 0 ≡ phase_of (decode_row w)
-  other-phase i o = phase-by 0 (go f.kind i o)
-    where
-      go : (k : ℕ) → (k ≡ 1 → ⊥) → (k ≡ 6 → ⊥) → 0 ≡ phase_of (row_from_fields k f.reset f.a f.b f.c)
-      go zero i o = refl
-      go (suc zero) i o = absurd (i refl)
-      go (suc (suc zero)) i o = refl
-      go (suc (suc (suc zero))) i o = refl
-      go (suc (suc (suc (suc zero)))) i o = refl
-      go (suc (suc (suc (suc (suc zero))))) i o = refl
-      go (suc (suc (suc (suc (suc (suc zero)))))) i o = absurd (o refl)
-      go (suc (suc (suc (suc (suc (suc (suc k))))))) i o = refl
 
 -- ---- 13: the rows in turn
 
@@ -81,8 +47,8 @@ module _ (rows : List Row) where
   phase-found : (n i : ℕ) → i < n → NoPhase i → (phase_of (row_at rows i) ≡ 0 → ⊥) → i ≡ first_from 0 n (has_phase rows)
   phase-found n i l before h = sym (first_found 0 n (has_phase rows) i (omega arith) (omega arith) (λ j _ b. phase-zero j (before j b)) (phase-some i h))
 
-  pub phase-missing : (n i : ℕ) → n ≤ i → NoPhase i → n ≡ first_from 0 n (has_phase rows)
-  phase-missing n i l before = sym (first-none 0 n (has_phase rows) (λ j _ b. phase-zero j (before j (omega arith))) ∙ zero-add n)
+  pub phase-missing : (n i : ℕ) → n ≤ i → NoPhase i → first_from 0 n (has_phase rows) ≡ n
+  phase-missing n i l before = first-none 0 n (has_phase rows) (λ j _ b. phase-zero j (before j (omega arith))) ∙ zero-add n
 
   -- The answer of question 13, by the first row that has a phase.
   module _ (r : ℕ) (first : r ≡ first_from 0 (length rows) (has_phase rows)) where
@@ -111,9 +77,6 @@ module _ (file : List ℕ) (n : ℕ) (R : HasRows file n) (i : ℕ) (more : i < 
   pub phase-here : (p ≡ 0 → ⊥) → i ≡ first_from 0 n (has_phase (netlist_of file))
   phase-here h = phase-found (netlist_of file) n i more before (λ e. h (sym phase-read ∙ e))
 
-  pub phase-after : p ≡ 0 → NoPhase (netlist_of file) (i + 1)
-  phase-after e = below_more (λ j. phase_of (row_at (netlist_of file) j) ≡ 0) i before (phase-read ∙ e)
-
 -- ---- the first no of a list of questions
 
 pub fold-number-positive : (x : FoldRefusal) → 0 < (fold_refusal_in x).number
@@ -126,44 +89,14 @@ fold-number-positive Memory = omega arith
 fold-number-positive NoLasso = omega arith
 
 module _ (n : ℕ) (q : Refusal) (qs : List Refusal) where
-  answer-stop : (x : FoldRefusal) → q ≡ fold_refusal_in x → AnswersTo (q ∷ qs) n (Stopped x)
+  answer-stop : (x : FoldRefusal) → q ≡ fold_refusal_in x → AnswersTo (q ∷ qs) n (Err x)
   answer-stop x e = record {
     refusal = sym (list-stop q qs (omega (arith, fold-number-positive x, ap (λ (q : Refusal). q.number) e)) ∙ e);
     rows = λ m e. absurd (let z : ◌≡◌ {A = ℕ} 0 1 = cc e in omega arith);
   }
 
-  answer-next : (a : Asked) → q.number ≡ 0 → AnswersTo qs n a → AnswersTo (q ∷ qs) n a
+  answer-next : (a : Result ℕ FoldRefusal) → q.number ≡ 0 → AnswersTo qs n a → AnswersTo (q ∷ qs) n a
   answer-next a e A = record { refusal = A.refusal ∙ sym (list-next q qs e); rows = A.rows }
-
-answer-all : (n : ℕ) → AnswersTo [] n (Passed n)
-answer-all n = record { refusal = refl; rows = λ m e. cc e }
-
--- ---- 14 and 15
-
-module _ (n wish result work clocks : ℕ) where
-  -- 14 and 15.
-  abbrev asked_wish : Refusal
-  asked_wish = question 14 (leb wish most_phases)
-
-  abbrev asked_memory : Refusal
-  asked_memory = question 15 (fold_memory_right result work clocks)
-
-  -- The three tests of question 15, as they are joined.
-  pub memory-tested : (both all : Bool) → both ≡ leb fold_result_bytes result && leb fold_work_bytes work → all ≡ both && leb fold_clock_entries clocks → (t : Bool) → all ≡ t → fold_memory_right result work clocks ≡ t
-  memory-tested both all e g t h = ap (λ (x : Bool). x && leb fold_clock_entries clocks) (sym e) ∙ sym g ∙ h
-
-  pub wish-no : most_phases < wish → AnswersTo (argument_questions wish result work clocks) n (Stopped Wish)
-  wish-no h = answer-stop n asked_wish (asked_memory ∷ []) Wish (question-no 14 (leb wish most_phases) (lt-leb wish most_phases h))
-
-  module _ (few : wish ≤ most_phases) where
-    wish-yes : asked_wish.number ≡ 0
-    wish-yes = question-of 14 (leb wish most_phases) (le-leb wish most_phases few)
-
-    pub memory-no : fold_memory_right result work clocks ≡ false → AnswersTo (argument_questions wish result work clocks) n (Stopped Memory)
-    memory-no e = answer-next n asked_wish (asked_memory ∷ []) (Stopped Memory) wish-yes (answer-stop n asked_memory [] Memory (question-no 15 (fold_memory_right result work clocks) e))
-
-    pub arguments-passed : fold_memory_right result work clocks ≡ true → AnswersTo (argument_questions wish result work clocks) n (Passed n)
-    arguments-passed e = answer-next n asked_wish (asked_memory ∷ []) (Passed n) wish-yes (answer-next n asked_memory [] (Passed n) (question-of 15 (fold_memory_right result work clocks) e) (answer-all n))
 
 -- ---- 11 to 13, of n rows, and then the questions qs
 
@@ -179,11 +112,11 @@ module _ (rows : List Row) (n : ℕ) (count : n ≡ length rows) (qs : List Refu
   asked_phases = item_questions (length rows) (phase_question rows)
 
   -- A refusal of one of the three.
-  original-no : (x : FoldRefusal) → AnswersTo (asked_rows ∷ asked_registers ∷ asked_phases ∷ []) n (Stopped x) → AnswersTo (original_refusal rows ∷ qs) n (Stopped x)
+  original-no : (x : FoldRefusal) → AnswersTo (asked_rows ∷ asked_registers ∷ asked_phases ∷ []) n (Err x) → AnswersTo (original_refusal rows ∷ qs) n (Err x)
   unfolding original_refusal
   original-no x A = answer-stop n (original_refusal rows) qs x (sym A.refusal)
 
-  pub rows-no : most_original_rows < n → AnswersTo (original_refusal rows ∷ qs) n (Stopped Rows)
+  pub rows-no : most_original_rows < n → AnswersTo (original_refusal rows ∷ qs) n (Err Rows)
   rows-no h = original-no Rows (answer-stop n asked_rows (asked_registers ∷ asked_phases ∷ []) Rows (question-no 11 (leb (length rows) most_original_rows) (lt-leb (length rows) most_original_rows (omega arith))))
 
   module _ (small : n ≤ most_original_rows) where
@@ -194,46 +127,47 @@ module _ (rows : List Row) (n : ℕ) (count : n ≡ length rows) (qs : List Refu
       registers-are : counts.registers ≡ count_if is_register rows
       registers-are = ap (λ (k : Counts). k.registers) counted
 
-      pub registers-no : most_original_registers < counts.registers → AnswersTo (original_refusal rows ∷ qs) n (Stopped Registers)
+      pub registers-no : most_original_registers < counts.registers → AnswersTo (original_refusal rows ∷ qs) n (Err Registers)
       registers-no h =
           original-no Registers
-          (answer-next n asked_rows (asked_registers ∷ asked_phases ∷ []) (Stopped Registers) rows-yes
+          (answer-next n asked_rows (asked_registers ∷ asked_phases ∷ []) (Err Registers) rows-yes
           (answer-stop n asked_registers (asked_phases ∷ []) Registers (question-no 12 (leb (count_if is_register rows) most_original_registers) (lt-leb (count_if is_register rows) most_original_registers (omega (arith, registers-are))))))
 
-      module _ (few : counts.registers ≤ most_original_registers) (r : ℕ) (first : r ≡ first_from 0 n (has_phase rows)) where
+      module _ (few : counts.registers ≤ most_original_registers) where
         registers-yes : asked_registers.number ≡ 0
         registers-yes = question-of 12 (leb (count_if is_register rows) most_original_registers) (le-leb (count_if is_register rows) most_original_registers (omega (arith, registers-are)))
 
-        first-is-r : r ≡ first_from 0 (length rows) (has_phase rows)
-        first-is-r = first ∙ ap (λ (n : ℕ). first_from 0 n (has_phase rows)) count
+        -- The first row that has a phase, or the row count.
+        first-of : (r : ℕ) → r ≡ first_from 0 n (has_phase rows) → r ≡ first_from 0 (length rows) (has_phase rows)
+        first-of r first = first ∙ ap (λ (n : ℕ). first_from 0 n (has_phase rows)) count
 
-        pub phase-no : r < n → AnswersTo (original_refusal rows ∷ qs) n (Stopped (Phase r))
-        phase-no l =
+        pub phase-no : (r : ℕ) → r < n → r ≡ first_from 0 n (has_phase rows) → AnswersTo (original_refusal rows ∷ qs) n (Err (Phase r))
+        phase-no r l first =
             original-no (Phase r)
-            (answer-next n asked_rows (asked_registers ∷ asked_phases ∷ []) (Stopped (Phase r)) rows-yes
-            (answer-next n asked_registers (asked_phases ∷ []) (Stopped (Phase r)) registers-yes
-            (answer-stop n asked_phases [] (Phase r) (phases-no rows r first-is-r (omega arith)))))
+            (answer-next n asked_rows (asked_registers ∷ asked_phases ∷ []) (Err (Phase r)) rows-yes
+            (answer-next n asked_registers (asked_phases ∷ []) (Err (Phase r)) registers-yes
+            (answer-stop n asked_phases [] (Phase r) (phases-no rows r (first-of r first) (omega arith)))))
 
-        pub original-passed : n ≤ r → (a : Asked) → AnswersTo qs n a → AnswersTo (original_refusal rows ∷ qs) n a
+        pub original-passed : first_from 0 n (has_phase rows) ≡ n → (a : Result ℕ FoldRefusal) → AnswersTo qs n a → AnswersTo (original_refusal rows ∷ qs) n a
         unfolding original_refusal
-        original-passed l a A =
-            let none = phases-none rows r first-is-r (omega arith) in
+        original-passed first a A =
+            let none = phases-none rows n (first-of n (sym first)) (omega arith) in
             answer-next n (original_refusal rows) qs a (number-none (original_refusal rows) (all_yes (asked_rows ∷ asked_registers ∷ asked_phases ∷ []) (rows-yes then registers-yes then none then tt))) A
 
 -- ---- 1 to 10, then the others
 
-module _ (file : List ℕ) (checked : Acceptance) (answered : Answered (file_refusal file) (netlist_of file) checked) where
+module _ (file : List ℕ) (checked : Result Accepted FileRefusal) (answered : Answered (file_refusal file) (netlist_of file) checked) where
   module _ (wish result work clocks : ℕ) where
     -- 11 to 15.
     abbrev asked_after : List Refusal
     asked_after = original_refusal (netlist_of file) ∷ argument_questions wish result work clocks
 
-    all_asked : (n : ℕ) (a : Asked) → n ≡ length (netlist_of file) → AnswersTo (file_refusal file ∷ asked_after) n a → Questioned file wish result work clocks a
+    all_asked : (n : ℕ) (a : Result ℕ FoldRefusal) → n ≡ length (netlist_of file) → AnswersTo (file_refusal file ∷ asked_after) n a → Questioned file wish result work clocks a
     unfolding early_refusal
     all_asked n a count A = record { refusal = A.refusal; rows = λ m e. A.rows m e ∙ count }
 
-    pub file-no : (r : FileRefusal) → checked ≡ Refused r → Questioned file wish result work clocks (Stopped (File r))
-    file-no r e = all_asked (length (netlist_of file)) (Stopped (File r)) refl (answer-stop (length (netlist_of file)) (file_refusal file) asked_after (File r) (sym (refused-is file checked answered r e)))
+    pub file-no : (r : FileRefusal) → checked ≡ Err r → Questioned file wish result work clocks (Err (File r))
+    file-no r e = all_asked (length (netlist_of file)) (Err (File r)) refl (answer-stop (length (netlist_of file)) (file_refusal file) asked_after (File r) (sym (refused-is file checked answered r e)))
 
-    pub original-asked : (n : ℕ) (c : code.Counts) → checked ≡ Accepted n c → (a : Asked) → AnswersTo asked_after n a → Questioned file wish result work clocks a
-    original-asked n c e a A = all_asked n a (answered.count n c e) (answer-next n (file_refusal file) asked_after a (number-none (file_refusal file) (accepted-none file checked answered n c e)) A)
+    pub original-asked : (y : Accepted) → checked ≡ Ok y → (a : Result ℕ FoldRefusal) → AnswersTo asked_after y.rows a → Questioned file wish result work clocks a
+    original-asked y e a A = all_asked y.rows a (answered.count y e) (answer-next y.rows (file_refusal file) asked_after a (number-none (file_refusal file) (accepted-none file checked answered y e)) A)

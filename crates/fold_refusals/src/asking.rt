@@ -1,5 +1,5 @@
 // Questions 1 to 15.
-ghost use Rattle.std.specs.Prelude.{◌≡◌, ◌∷◌, ◌+◌, ◌<◌, ◌≤◌, length};
+ghost use Rattle.std.specs.Prelude.{◌≡◌, ◌∷◌, ◌+◌, ◌<◌, ◌≤◌, length, MatchOption};
 ghost use Rattle.memory.specs.Lists.{first_from};
 ghost use Rattle.netlist.specs.Limits.{most_rows};
 ghost use Rattle.netlist.specs.Rows.{decode_row, phase_of};
@@ -12,19 +12,12 @@ ghost use Rattle.fold_refusals.specs.EarlyAnswers.{has_phase, AnswersTo};
 ghost use Rattle.fold_refusals.specs.FoldRefusals.{Questioned};
 
 use crate::FoldRefusal;
-use accept::Acceptance;
+use accept::Accepted;
 use blockfile::count::Counts;
 use netlist::{
     FOLD_CLOCK_ENTRIES, FOLD_RESULT_BYTES, FOLD_WORK_BYTES, MOST_ORIGINAL_REGISTERS,
     MOST_ORIGINAL_ROWS, MOST_PHASES,
 };
-
-// The row count of a file that passed, or the refusal.
-#[derive(Clone, Copy)]
-pub enum Asked {
-    Passed(usize),
-    Stopped(FoldRefusal),
-}
 
 const MOST_WISH: u32 = MOST_PHASES as u32;
 
@@ -42,38 +35,36 @@ fn row_phase(file: &[u8], row: usize) -> usize
     }
 }
 
-// 13: the first row whose phase is not 0, or the row count.
-fn first_phase(file: &[u8], rows: usize) -> usize
+// 13: the first row whose phase is not 0.
+fn first_phase(file: &[u8], rows: usize) -> Option<usize>
     requires { HasRows file.now rows }
-    ensures { result ≡ first_from 0 rows (has_phase (netlist_of file.now)) }
+    ensures { MatchOption result (first_from 0 rows (has_phase (netlist_of file.now)) ≡ rows) (λ row. (row < rows) × (row ≡ first_from 0 rows (has_phase (netlist_of file.now)))) }
 {
-    let mut row = 0;
-    'rows: while row < rows {
-        let phase = row_phase(file, row);
-        if phase != 0 {
-            return row;
+    for row in 0..rows {
+        if row_phase(file, row) != 0 {
+            return Some(row);
         }
-        row += 1;
     }
-    rows
+    None
 }
 
 // 14 and 15: the wish, and the lengths of what is lent; where both are right, the row count is handed on.
-fn ask_arguments(rows: usize, wish: u32, res: usize, work: usize, clocks: usize) -> Asked
+fn ask_arguments(
+    rows: usize,
+    wish: u32,
+    res: usize,
+    work: usize,
+    clocks: usize,
+) -> Result<usize, FoldRefusal>
     ensures { AnswersTo (argument_questions wish res work clocks) rows result }
 {
     if MOST_WISH < wish {
-        return Asked::Stopped(FoldRefusal::Wish);
+        return Err(FoldRefusal::Wish);
     }
-    let result_right = FOLD_RESULT_BYTES <= res;
-    let work_right = FOLD_WORK_BYTES <= work;
-    let clocks_right = FOLD_CLOCK_ENTRIES <= clocks;
-    let both_right = blockfile::both(result_right, work_right);
-    let lent = blockfile::both(both_right, clocks_right);
-    if lent {
-        Asked::Passed(rows)
+    if FOLD_RESULT_BYTES <= res && FOLD_WORK_BYTES <= work && FOLD_CLOCK_ENTRIES <= clocks {
+        Ok(rows)
     } else {
-        Asked::Stopped(FoldRefusal::Memory)
+        Err(FoldRefusal::Memory)
     }
 }
 
@@ -86,32 +77,32 @@ fn ask_original(
     res: usize,
     work: usize,
     clocks: usize,
-) -> Asked
+) -> Result<usize, FoldRefusal>
     requires { HasRows file.now rows × (counts_in counts ≡ counts_of (netlist_of file.now)) }
     ensures { AnswersTo (original_refusal (netlist_of file.now) ∷ argument_questions wish res work clocks) rows result }
 {
     if MOST_ORIGINAL_ROWS < rows {
-        return Asked::Stopped(FoldRefusal::Rows);
+        return Err(FoldRefusal::Rows);
     }
     if MOST_ORIGINAL_REGISTERS < counts.registers {
-        return Asked::Stopped(FoldRefusal::Registers);
+        return Err(FoldRefusal::Registers);
     }
-    let phased = first_phase(file, rows);
-    if phased < rows {
-        let place = phased as u32;
-        return Asked::Stopped(FoldRefusal::Phase { row: place });
+    match first_phase(file, rows) {
+        Some(row) => Err(FoldRefusal::Phase { row: row as u32 }),
+        None => ask_arguments(rows, wish, res, work, clocks),
     }
-    ask_arguments(rows, wish, res, work, clocks)
 }
 
 // 1 to 15, from the file, the wish, and the lengths of result, work and clock list.
-pub fn ask(file: &[u8], wish: u32, res: usize, work: usize, clocks: usize) -> Asked
+pub fn ask(
+    file: &[u8],
+    wish: u32,
+    res: usize,
+    work: usize,
+    clocks: usize,
+) -> Result<usize, FoldRefusal>
     ensures { Questioned file.now wish res work clocks result }
 {
-    match accept::accept(file) {
-        Acceptance::Accepted { rows, counts } => {
-            ask_original(file, rows, counts, wish, res, work, clocks)
-        }
-        Acceptance::Refused(refusal) => Asked::Stopped(FoldRefusal::File(refusal)),
-    }
+    let Accepted { rows, counts } = accept::accept(file)?;
+    ask_original(file, rows, counts, wish, res, work, clocks)
 }

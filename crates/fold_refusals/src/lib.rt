@@ -2,14 +2,15 @@
 #![tactic(auto)]
 
 ghost use Rattle.std.specs.Prelude.{◌≡◌};
-ghost use Rattle.fold_refusals.specs.FoldRefusals.{fold_refusal_in};
+ghost use Rattle.fold_refusals.specs.declared.FoldRefusal.TheVariants.{File};
 
 use accept::FileRefusal;
+use questions::Numbered;
 
 pub mod asking;
 
 // What a fold is refused for; of a file, with its place.
-#[derive(Clone, Copy)]
+#[derive(Clone, Copy, Debug, PartialEq, Eq)]
 pub enum FoldRefusal {
     File(FileRefusal),
     Rows,
@@ -20,31 +21,40 @@ pub enum FoldRefusal {
     NoLasso,
 }
 
-// The paper's number of a refusal, and its place.
-pub fn number_of(refusal: FoldRefusal) -> u32
-    ensures { result ≡ (fold_refusal_in refusal).number }
-{
-    match refusal {
-        FoldRefusal::File(file) => accept::number_of(file),
-        FoldRefusal::Rows => 11,
-        FoldRefusal::Registers => 12,
-        FoldRefusal::Phase { row: _ } => 13,
-        FoldRefusal::Wish => 14,
-        FoldRefusal::Memory => 15,
-        FoldRefusal::NoLasso => 16,
+impl Numbered for FoldRefusal {
+    ghost use Rattle.fold_refusals.specs.FoldRefusals.{fold_refusal_in};
+
+    ghost refusal = { fold_refusal_in };
+
+    fn number(self) -> u32 {
+        match self {
+            FoldRefusal::File(file) => file.number(),
+            FoldRefusal::Rows => 11,
+            FoldRefusal::Registers => 12,
+            FoldRefusal::Phase { row: _ } => 13,
+            FoldRefusal::Wish => 14,
+            FoldRefusal::Memory => 15,
+            FoldRefusal::NoLasso => 16,
+        }
+    }
+
+    fn place(self) -> u32 {
+        match self {
+            FoldRefusal::File(file) => file.place(),
+            FoldRefusal::Rows => 0,
+            FoldRefusal::Registers => 0,
+            FoldRefusal::Phase { row } => row,
+            FoldRefusal::Wish => 0,
+            FoldRefusal::Memory => 0,
+            FoldRefusal::NoLasso => 0,
+        }
     }
 }
 
-pub fn place_of(refusal: FoldRefusal) -> u32
-    ensures { result ≡ (fold_refusal_in refusal).place }
-{
-    match refusal {
-        FoldRefusal::File(file) => accept::place_of(file),
-        FoldRefusal::Rows => 0,
-        FoldRefusal::Registers => 0,
-        FoldRefusal::Phase { row } => row,
-        FoldRefusal::Wish => 0,
-        FoldRefusal::Memory => 0,
-        FoldRefusal::NoLasso => 0,
+impl From<FileRefusal> for FoldRefusal {
+    ghost from_gives = { λ file refusal. refusal ≡ File file };
+
+    fn from(file: FileRefusal) -> FoldRefusal {
+        FoldRefusal::File(file)
     }
 }

@@ -1,12 +1,8 @@
--- `first_phase` meets its contract. The loop's invariant: the rows before `row` have phase 0. The measure is the number of rows left.
+-- `first_phase` meets its contract. The loop's invariant: the rows before `row` have phase 0.
 -- Assumes nothing.
-use Prim.Native.Nat.{◌-◌, ◌≤◌}
 use Rattle.netlist.specs.FileFormat.{netlist_of}
 use Rattle.fold_refusals.proofs.EarlyLaws.{NoPhase}
 use Rattle.fold_refusals.proofs.asking.first_phase.Given as goal
 
-abbrev pub invariant-rows : goal.invariant-rows
-invariant-rows l = (l.row ≤ l.rows) × NoPhase (netlist_of l.file) l.row
-
-abbrev pub decreases-rows : goal.decreases-rows
-decreases-rows l = l.rows - l.row
+abbrev pub invariant-loop-row : goal.invariant-loop-row
+invariant-loop-row l = NoPhase (netlist_of l.file) l.row
