@@ -7,6 +7,7 @@ use mathlib.Core.Option.{Option, none, some}
 use native.Mathlib.Omega.{arith}
 use lib.ListN.{length, take, replicate}
 use lib.Seq.{take_at}
+use Rattle.std.specs.Prelude.{Result, Ok, Err}
 use Rattle.memory.specs.Fields.{IsBytes}
 use Rattle.netlist.specs.FileFormat.{netlist_of}
 use Rattle.abstraction.specs.Fold.{FoldAnswer, fold_netlist}
@@ -22,8 +23,6 @@ use Rattle.trace_answers.specs.TraceAnswers.{trace_refusal_in}
 use Rattle.trace_answers.specs.Traced.{TraceDone, Traced}
 use Rattle.trace_answers.specs.declared.TraceRefusal.{TraceRefusal}
 use Rattle.trace_answers.specs.declared.TraceRefusal.TheVariants.{Fold, Groups, Values, Room}
-use Rattle.trace_answers.specs.declared.Tracing.{Tracing}
-use Rattle.trace_answers.specs.declared.Tracing.TheVariants.{Done, Refused}
 
 -- A refusal has a number.
 pub trace-positive : (r : TraceRefusal) → 0 < (trace_refusal_in r).number
@@ -42,7 +41,7 @@ module _ (file : List ℕ) (wish G k : ℕ) (choices inputs : List ℕ) (result 
   abbrev after : Option FoldAnswer → List ℕ
   after o = trace_after (trace_of (netlist_of file) G k choices inputs o) trace
 
-  pub trace-refused : (r : TraceRefusal) → trace_refusal_in r ≡ asked → TraceDone file wish G k choices inputs result work trace trace (Refused r)
+  pub trace-refused : (r : TraceRefusal) → trace_refusal_in r ≡ asked → TraceDone file wish G k choices inputs result work trace trace (Err r)
   trace-refused r e =
       let positive = trace-positive r in
       let none_is : answered ≡ none = rw (number-some asked (omega (arith, positive, same_number e))).0 refl in
@@ -54,7 +53,7 @@ module _ (file : List ℕ) (wish G k : ℕ) (choices inputs : List ℕ) (result 
       }
 
   -- By the fold that the file has.
-  pub trace-made : IsBytes file → (a : FoldAnswer) → fold_netlist (netlist_of file) wish ≡ some a → no_refusal ≡ asked → (trace' : List ℕ) → trace' ≡ after (some a) → TraceDone file wish G k choices inputs result work trace trace' (Done (trace_steps a.phases G k))
+  pub trace-made : IsBytes file → (a : FoldAnswer) → fold_netlist (netlist_of file) wish ≡ some a → no_refusal ≡ asked → (trace' : List ℕ) → trace' ≡ after (some a) → TraceDone file wish G k choices inputs result work trace trace' (Ok (trace_steps a.phases G k))
   trace-made bytes a folds e trace' written_is =
       let T = trace_steps a.phases G k in
       let made : FoldAnswer → List ℕ = λ b. trace_bytes (netlist_of file) b.phases b.rows (trace_steps b.phases G k) choices inputs in
@@ -71,7 +70,7 @@ module _ (file : List ℕ) (wish G k : ℕ) (choices inputs : List ℕ) (result 
       }
 
 -- Result and work are cleared at the end, as r and w that are as long as they were lent.
-pub traced-by : (file : List ℕ) (wish G k : ℕ) (choices inputs result r result' work w work' trace trace' : List ℕ) (answer : Tracing) → TraceDone file wish G k choices inputs (length result) (length work) trace trace' answer
+pub traced-by : (file : List ℕ) (wish G k : ℕ) (choices inputs result r result' work w work' trace trace' : List ℕ) (answer : Result ℕ TraceRefusal) → TraceDone file wish G k choices inputs (length result) (length work) trace trace' answer
     → length r ≡ length result → length w ≡ length work → result' ≡ replicate (length r) 0 → work' ≡ replicate (length w) 0 → Traced file wish G k choices inputs result result' work work' trace trace' answer
 traced-by file wish G k choices inputs result r result' work w work' trace trace' answer done long-r long-w clear-r clear-w = record {
   done = done;

@@ -1,13 +1,14 @@
-// What Trace answers, and what it promises (specs/Traced.antt).
+// What Trace is refused for, and what it promises (specs/Traced.antt).
 #![tactic(auto)]
 
 ghost use Rattle.std.specs.Prelude.{◌≡◌};
-ghost use Rattle.trace_answers.specs.TraceAnswers.{trace_refusal_in};
+ghost use Rattle.trace_answers.specs.declared.TraceRefusal.TheVariants.{Fold};
 
 use fold_refusals::FoldRefusal;
+use questions::Numbered;
 
 // What a trace is refused for: what Fold refuses, 26, 27 and 28.
-#[derive(Clone, Copy)]
+#[derive(Clone, Copy, Debug, PartialEq, Eq)]
 pub enum TraceRefusal {
     Fold(FoldRefusal),
     Groups,
@@ -15,32 +16,34 @@ pub enum TraceRefusal {
     Room,
 }
 
-// The number of a refusal, and its place.
-pub fn number_of(refusal: TraceRefusal) -> u32
-    ensures { result ≡ (trace_refusal_in refusal).number }
-{
-    match refusal {
-        TraceRefusal::Fold(fold) => fold_refusals::number_of(fold),
-        TraceRefusal::Groups => 26,
-        TraceRefusal::Values => 27,
-        TraceRefusal::Room => 28,
+impl Numbered for TraceRefusal {
+    ghost use Rattle.trace_answers.specs.TraceAnswers.{trace_refusal_in};
+
+    ghost refusal = { trace_refusal_in };
+
+    fn number(self) -> u32 {
+        match self {
+            TraceRefusal::Fold(fold) => fold.number(),
+            TraceRefusal::Groups => 26,
+            TraceRefusal::Values => 27,
+            TraceRefusal::Room => 28,
+        }
+    }
+
+    fn place(self) -> u32 {
+        match self {
+            TraceRefusal::Fold(fold) => fold.place(),
+            TraceRefusal::Groups => 0,
+            TraceRefusal::Values => 0,
+            TraceRefusal::Room => 0,
+        }
     }
 }
 
-pub fn place_of(refusal: TraceRefusal) -> u32
-    ensures { result ≡ (trace_refusal_in refusal).place }
-{
-    match refusal {
-        TraceRefusal::Fold(fold) => fold_refusals::place_of(fold),
-        TraceRefusal::Groups => 0,
-        TraceRefusal::Values => 0,
-        TraceRefusal::Room => 0,
-    }
-}
+impl From<FoldRefusal> for TraceRefusal {
+    ghost from_gives = { λ fold refusal. refusal ≡ Fold fold };
 
-// How many steps the trace has, or why there is none.
-#[derive(Clone, Copy)]
-pub enum Tracing {
-    Done { steps: u32 },
-    Refused(TraceRefusal),
+    fn from(fold: FoldRefusal) -> TraceRefusal {
+        TraceRefusal::Fold(fold)
+    }
 }
