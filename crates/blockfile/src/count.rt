@@ -13,5 +13,5 @@ pub struct Counts {
 pub fn one_if(x: bool) -> usize
     ensures { (result ≡ cond x 1 0) × (result ≤ 1) }
 {
-    if x { 1 } else { 0 }
+    usize::from(x)
 }

@@ -53,8 +53,7 @@ pub fn row_offset(row: usize) -> usize
 pub fn file_bytes(rows: u32) -> usize
     ensures { result ≡ 512 * blocks_for rows }
 {
-    let blocks = (rows as usize + 62) / BLOCK_ROWS;
-    BLOCK_BYTES * blocks
+    BLOCK_BYTES * (rows as usize).div_ceil(BLOCK_ROWS)
 }
 
 // The field of two bytes at `offset`.
@@ -80,11 +79,11 @@ pub fn read_at(file: &[u8], offset: usize) -> Fields
     let b = field_at(file, at_b);
     let c = field_at(file, at_c);
     Fields {
-        kind: kind,
-        reset: reset,
-        a: a,
-        b: b,
-        c: c,
+        kind,
+        reset,
+        a,
+        b,
+        c,
     }
 }
 
@@ -162,8 +161,8 @@ pub fn renumber_row(slots: &[u8], count: usize, row: Fields) -> Fields
     Fields {
         kind: row.kind,
         reset: row.reset,
-        a: a,
-        b: b,
-        c: c,
+        a,
+        b,
+        c,
     }
 }
