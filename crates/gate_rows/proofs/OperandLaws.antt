@@ -1,4 +1,4 @@
--- The operands of a row: how many there are by its kind, and where they stand by its layout.
+-- A row's kind and operands where they stand, by its layout.
 -- Assumes nothing.
 use Prim.Native.Nat.{ℕ, zero, suc, ◌+◌, ◌*◌, ◌<◌, ◌≤◌, ◌/◌, ◌^◌}
 use mathlib.Core.Path.{◌≡◌, refl, sym, ap, ◌∙◌, subst}
@@ -6,7 +6,7 @@ use mathlib.Core.List.{List, [], ◌∷◌}
 use native.Mathlib.Omega.{arith}
 use lib.ListN.{length, get_or}
 use Rattle.memory.specs.Fields.{u16_at}
-use Rattle.netlist.specs.Rows.{Row, RowFields, constant, input, register, and_gate, xor_gate, mux_gate, output, encode_row, row_from_fields, row_at, kind_of}
+use Rattle.netlist.specs.Rows.{Row, RowFields, constant, input, register, and_gate, xor_gate, mux_gate, output, encode_row, row_at, kind_of}
 use Rattle.netlist.specs.FileFormat.{row_offset, read_fields}
 use Rattle.ordering.specs.GateOrder.{operands_of}
 use Rattle.gate_rows.specs.Sources.{pair_kind, operand_offset, source_rows, Source}
@@ -16,33 +16,7 @@ use Rattle.gate_rows.specs.declared.Layout.TheVariants as layout
 use Rattle.gate_rows.proofs.PairLaws.{kind-of-pair, pair-operand}
 use Rattle.gate_rows.proofs.SourceLaws.{file-inside, file-fields, pair_is, pair-stands}
 
--- ---- by kind
-
--- How many operands a row of kind k has.
-abbrev operand_count : ℕ → ℕ
-operand_count k = length (operands_of (row_from_fields k 0 0 0 0))
-
-count-is : (r : Row) → operand_count (kind_of r) ≡ length (operands_of r)
-count-is constant = refl
-count-is (input _ _) = refl
-count-is (register _ _ _) = refl
-count-is (and_gate _ _) = refl
-count-is (xor_gate _ _) = refl
-count-is (mux_gate _ _ _) = refl
-count-is (output _ _ _) = refl
-
--- A row of kind m.
-pub operands-of : (m : ℕ) (r : Row) (k : ℕ) → k ≡ kind_of r → k ≡ m → operand_count m ≡ length (operands_of r)
-operands-of m r k e q = ap operand_count (sym q ∙ e) ∙ count-is r
-
-pub no-operands : (r : Row) (k : ℕ) → k ≡ kind_of r → (k ≡ 3 → ⊥) → (k ≡ 4 → ⊥) → (k ≡ 5 → ⊥) → 0 ≡ length (operands_of r)
-no-operands constant k e x y z = refl
-no-operands (input _ _) k e x y z = refl
-no-operands (register _ _ _) k e x y z = refl
-no-operands (and_gate _ _) k e x y z = absurd (x e)
-no-operands (xor_gate _ _) k e x y z = absurd (y e)
-no-operands (mux_gate _ _ _) k e x y z = absurd (z e)
-no-operands (output _ _ _) k e x y z = refl
+-- ---- the kind of a pair
 
 pub pair-kind-is : (l : Layout) (s : List ℕ) (row : ℕ) → Source l s (length (source_rows l s)) → row < length (source_rows l s) → (c : Pairs) → l ≡ layout.Pairs c → (k : ℕ) → k ≡ pair_kind c row → k ≡ kind_of (row_at (source_rows l s) row)
 pair-kind-is l s row S h c e k q = q ∙ sym (ap kind_of (pair_is l s row S h c e) ∙ kind-of-pair c s row)
@@ -100,11 +74,3 @@ module _ (l : Layout) (s : List ℕ) (row : ℕ) (S : Source l s (length (source
 
 pub half-small : (v : ℕ) → v < 2 ^ 16 → v / 2 < 2 ^ 15
 half-small v h = omega (arith, h)
-
--- ---- the code's offset
-
-pub offset-in-file : (l : Layout) (row i o : ℕ) → l ≡ layout.File → o ≡ row_offset row → o + 2 + 2 * i ≡ operand_offset l row i
-offset-in-file l row i o e p = rw (e, p)
-
-pub offset-in-pairs : (l : Layout) (row i : ℕ) (c : Pairs) → l ≡ layout.Pairs c → 4 * row + 2 * i ≡ operand_offset l row i
-offset-in-pairs l row i c e = rw e

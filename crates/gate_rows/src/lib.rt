@@ -133,7 +133,7 @@ fn pair_fields(source: &[u8], pairs: Pairs, row: usize) -> Fields
             let reset = second as u8;
             Fields {
                 kind: 2,
-                reset: reset,
+                reset,
                 a: next,
                 b: label,
                 c: 0,
