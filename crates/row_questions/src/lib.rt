@@ -26,6 +26,9 @@ pub struct RowTests {
     pub tally: usize,
 }
 
+// A register's reset is 0, 1 or 2, which is X.
+const MOST_RESET: u8 = 2;
+
 pub const LABELS: usize = 65536;
 
 // A name's slot: one for each label and phase of an input, each label of a register, each label and phase of an output.
@@ -113,7 +116,7 @@ pub fn test_row(
         },
         2 => RowTests {
             kind: node,
-            fields: reset <= 2 && c == 0,
+            fields: reset <= MOST_RESET && c == 0,
             named: true,
             slot: REGISTER_SLOTS + b,
             literals: names_node(file, rows, a),
