@@ -16,42 +16,31 @@ struct Cells(u8, u8, u16, u16, u16);
 fn row_start(row: u16) -> u32
     ensures { result < 1048576 }
 {
-    let index = row as u32;
-    let block = index / 63;
-    let before = index % 63;
-    512 * block + 4 + 8 * before
+    let index = u32::from(row);
+    512 * (index / 63) + 4 + 8 * (index % 63)
 }
 
 // The field of two bytes at `at`.
 fn put_field(file: &mut [u8], at: u32, value: u16) {
-    let low = (value % 256) as u8;
-    let high = (value / 256) as u8;
+    let [low, high] = value.to_le_bytes();
     let first = at as usize;
-    let second = first + 1;
     put(file, first, low);
-    put(file, second, high);
+    put(file, first + 1, high);
 }
 
 fn put_row(file: &mut [u8], row: u16, cells: Cells) {
     let start = row_start(row);
     let kind_at = start as usize;
-    let reset_at = kind_at + 1;
     put(file, kind_at, cells.0);
-    put(file, reset_at, cells.1);
+    put(file, kind_at + 1, cells.1);
     put_field(file, start + 2, cells.2);
     put_field(file, start + 4, cells.3);
     put_field(file, start + 6, cells.4);
 }
 
-fn wide(byte: u8) -> u32
-    ensures { result < 256 }
-{
-    byte as u32
-}
-
 // A byte's share of the sum of words: byte `i` of a block stands in column i mod 4.
 fn share_of(byte: u8, i: usize) -> u32 {
-    let value = wide(byte);
+    let value = u32::from(byte);
     match i % 4 {
         0 => value,
         1 => 256 * value,
@@ -62,60 +51,47 @@ fn share_of(byte: u8, i: usize) -> u32 {
 
 // The sum of the words before a block's check word.
 fn sum_before_check(file: &[u8], block: u16) -> u32 {
-    let start = 512 * block as usize;
+    let start = 512 * usize::from(block);
     let mut sum: u32 = 0;
-    let mut i = 0;
-    'adding: while i < 508 {
-        let at = start + i;
-        let byte = get(file, at);
-        let share = share_of(byte, i);
-        sum = std::num::wrapping_add_u32(sum, share);
-        i += 1;
+    for i in 0..508 {
+        sum = sum.wrapping_add(share_of(get(file, start + i), i));
     }
     sum
 }
 
 // The check word that makes a block's sum right.
 fn check_word(file: &[u8], block: u16) -> u32 {
-    4294967295 - sum_before_check(file, block)
+    !sum_before_check(file, block)
 }
 
 fn seal_block(file: &mut [u8], block: u16) {
     let check = check_word(file, block);
-    let at = 512 * block as u32 + 508;
-    let low = (check % 65536) as u16;
-    let high = (check / 65536) as u16;
-    put_field(file, at, low);
-    put_field(file, at + 2, high);
+    let at = 512 * u32::from(block) + 508;
+    put_field(file, at, (check % 65536) as u16);
+    put_field(file, at + 2, (check / 65536) as u16);
 }
 
 // The check words of the first `count` blocks.
 fn seal(file: &mut [u8], count: u16) {
-    let mut block: u16 = 0;
-    'sealing: while block < count {
+    for block in 0..count {
         seal_block(file, block);
-        block += 1;
     }
 }
 
 // The block's number has its low byte in byte 1 and its high byte in byte 3.
 fn put_head(file: &mut [u8], block: u16, mark: u8, count: u8) {
-    let start = 512 * block as usize;
-    let low_at = start + 1;
-    let count_at = start + 2;
-    let high_at = start + 3;
-    let low = (block % 256) as u8;
-    let high = (block / 256) as u8;
+    let start = 512 * usize::from(block);
+    let [low, high] = block.to_le_bytes();
     put(file, start, mark);
-    put(file, low_at, low);
-    put(file, count_at, count);
-    put(file, high_at, high);
+    put(file, start + 1, low);
+    put(file, start + 2, count);
+    put(file, start + 3, high);
 }
 
 // Row `row` of a long netlist: by turns input, register, AND and XOR.
 fn mixed_cells(row: u16) -> Cells {
-    let literal = std::num::wrapping_add_u16(row, row);
-    let before = std::num::wrapping_sub_u16(literal, 2);
+    let literal = row.wrapping_add(row);
+    let before = literal.wrapping_sub(2);
     match row % 4 {
         0 => Cells(4, 0, before, 1, 0),
         1 => Cells(1, 0, row, 7, 0),
@@ -126,8 +102,8 @@ fn mixed_cells(row: u16) -> Cells {
 
 // A gate of a chain: the inverse of `node` and the input, row 1.
 fn chain_cells(row: u16, node: u16) -> Cells {
-    let literal = std::num::wrapping_add_u16(node, node);
-    let inverse = std::num::wrapping_add_u16(literal, 1);
+    let literal = node.wrapping_add(node);
+    let inverse = literal.wrapping_add(1);
     if row == 1 {
         Cells(1, 0, 5, 6, 0)
     } else {
@@ -137,8 +113,8 @@ fn chain_cells(row: u16, node: u16) -> Cells {
 
 // The row of that long netlist which the letter says; of a turned chain the last gate, in row `rows` - 1, is the first.
 fn long_cells(letter: u8, row: u16, rows: u16) -> Cells {
-    let before = std::num::wrapping_sub_u16(row, 1);
-    let behind = std::num::wrapping_add_u16(row, 1);
+    let before = row.wrapping_sub(1);
+    let behind = row.wrapping_add(1);
     let next = if behind == rows { 1 } else { behind };
     if row == 0 {
         return Cells(0, 0, 0, 0, 0);
@@ -152,33 +128,28 @@ fn long_cells(letter: u8, row: u16, rows: u16) -> Cells {
 
 // Nodes up to row `rows`, which is an output of the last of them, or of a turned chain of the first gate.
 fn put_long_rows(file: &mut [u8], letter: u8, rows: u16) {
-    let mut row: u16 = 0;
-    'rows: while row < rows {
-        let cells = long_cells(letter, row, rows);
-        put_row(file, row, cells);
-        row += 1;
+    for row in 0..rows {
+        put_row(file, row, long_cells(letter, row, rows));
     }
-    let last = std::num::wrapping_sub_u16(rows, 1);
+    let last = rows.wrapping_sub(1);
     let shown = if letter == b't' { 2 } else { last };
-    let literal = std::num::wrapping_add_u16(shown, shown);
+    let literal = shown.wrapping_add(shown);
     put_row(file, rows, Cells(6, 0, literal, 65535, 7));
 }
 
 // Heads of the blocks before the last.
 fn put_heads(file: &mut [u8], last: u16) {
-    let mut block: u16 = 0;
-    'heads: while block < last {
+    for block in 0..last {
         put_head(file, block, NOT_LAST, 63);
-        block += 1;
     }
 }
 
 // A netlist whose last block is number `last`, with `count` rows in it.
 fn put_long(file: &mut [u8], letter: u8, last: u16, count: u8) {
     let full = 63 * (last % 1024);
-    let rows = full + count as u16;
-    let last_row = std::num::wrapping_sub_u16(rows, 1);
-    let blocks = std::num::wrapping_add_u16(last, 1);
+    let rows = full + u16::from(count);
+    let last_row = rows.wrapping_sub(1);
+    let blocks = last.wrapping_add(1);
     put_long_rows(file, letter, last_row);
     put_heads(file, last);
     put_head(file, last, LAST, count);
@@ -204,15 +175,13 @@ fn close(file: &mut [u8], count: u8) {
 
 // Two blocks change places.
 fn exchange(file: &mut [u8], x: u16, y: u16) {
-    let from = 512 * x as usize;
-    let to = 512 * y as usize;
-    let mut i = 0;
-    'bytes: while i < 512 {
+    let from = 512 * usize::from(x);
+    let to = 512 * usize::from(y);
+    for i in 0..512 {
         let first = get(file, from + i);
         let second = get(file, to + i);
         put(file, from + i, second);
         put(file, to + i, first);
-        i += 1;
     }
 }
 
