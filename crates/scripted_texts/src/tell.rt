@@ -21,18 +21,12 @@ pub fn title(rt: &impl Streams, line: &[u8], tally: Tally) -> Tally {
 
 fn print(rt: &impl Streams, words: &[u8], number: u32) {
     write_all(rt, 1, words);
-    print_decimal(rt, 1, number as u64);
+    print_decimal(rt, 1, number.into());
 }
 
 // Number and place of a refusal, 0 and 0 for none, and how many rows there are.
-#[derive(Clone, Copy)]
+#[derive(Clone, Copy, Debug, PartialEq, Eq)]
 pub struct Seen(pub u32, pub u32, pub u32);
-
-pub fn alike(x: Seen, y: Seen) -> bool {
-    let number = x.0 == y.0;
-    let place = x.1 == y.1;
-    number && place && x.2 == y.2
-}
 
 // One that does not agree is told with its line.
 fn tell(rt: &impl Streams, line: &[u8], who: &[u8], seen: Seen, answered: bool) {
@@ -57,19 +51,14 @@ pub fn judge(
     left: bool,
     tally: Tally,
 ) -> Tally {
-    let answered = alike(seen, expected);
+    let answered = seen == expected;
     let right = answered && left;
-    let asked = std::num::wrapping_add_u32(tally.asked, 1);
     if !right {
         tell(rt, line, who, seen, answered);
-        return Tally {
-            asked: asked,
-            met: tally.met,
-        };
     }
     Tally {
-        asked: asked,
-        met: std::num::wrapping_add_u32(tally.met, 1),
+        asked: tally.asked.wrapping_add(1),
+        met: tally.met.wrapping_add(u32::from(right)),
     }
 }
 
