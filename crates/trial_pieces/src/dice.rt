@@ -18,7 +18,7 @@ pub fn roll(seed: &mut u64, sides: usize) -> usize {
 // A number from `low` on, below `low` and `sides` together.
 pub fn roll_from(seed: &mut u64, low: usize, sides: usize) -> usize {
     let more = roll(seed, sides);
-    std::num::wrapping_add_usize(low, more)
+    low.wrapping_add(more)
 }
 
 // One time in `sides`.
@@ -42,7 +42,7 @@ pub fn any_literal(seed: &mut u64, nodes: usize) -> u16 {
 // A literal of one of the last eight nodes before `at`.
 pub fn near_literal(seed: &mut u64, at: usize) -> u16 {
     let back = roll_from(seed, 1, 8);
-    let node = std::num::wrapping_sub_usize(at, back);
+    let node = at.wrapping_sub(back);
     let inverted = roll_u16(seed, 2) % 2;
     if at < back { 0 } else { plain(node) ^ inverted }
 }
@@ -54,7 +54,7 @@ pub fn plain(node: usize) -> u16 {
 
 // Zeros and ones by chance in the first bytes.
 pub fn put_values(bytes: &mut [u8], seed: &mut u64, count: usize) {
-    'values: for i in 0..count {
+    for i in 0..count {
         let value = roll_u8(seed, 2);
         text::bytes::put(bytes, i, value);
     }
@@ -63,8 +63,8 @@ pub fn put_values(bytes: &mut [u8], seed: &mut u64, count: usize) {
 // How much is lent: at times one byte too few, or some more.
 pub fn lent_of(seed: &mut u64, needed: usize) -> usize {
     match roll(seed, 24) {
-        0 => std::num::wrapping_sub_usize(needed, 1),
-        1 | 2 | 3 => std::num::wrapping_add_usize(needed, 16),
+        0 => needed.wrapping_sub(1),
+        1 | 2 | 3 => needed.wrapping_add(16),
         _ => needed,
     }
 }

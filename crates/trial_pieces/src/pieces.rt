@@ -1,19 +1,19 @@
 // Pieces that netlists are put together from. Each is put from row `at` on, and the answer is the row after it.
 use crate::dice::{any_literal, chance, near_literal, plain, roll, roll_from, roll_u8};
-use reference_rows::rows::{Row, put_row, row_at};
+use reference_rows::rows::{Row, kind_at, node_of, put_row, row_at};
 
 pub fn cells(kind: u8, reset: u8, a: u16, b: u16, c: u16) -> Row {
     Row {
-        kind: kind,
-        reset: reset,
-        a: a,
-        b: b,
-        c: c,
+        kind,
+        reset,
+        a,
+        b,
+        c,
     }
 }
 
 pub fn plus(x: usize, y: usize) -> usize {
-    std::num::wrapping_add_usize(x, y)
+    x.wrapping_add(y)
 }
 
 // Labels differ from row to row, since 7 is odd, and none is its row's number.
@@ -73,11 +73,11 @@ pub fn put_ring(file: &mut [u8], seed: &mut u64, at: usize, count: usize) -> usi
     let hot = roll(seed, count);
     let mixed = chance(seed, 3);
     let end = plus(at, count);
-    let mut before = std::num::wrapping_sub_usize(end, 1);
-    'ring: for i in 0..count {
+    let mut before = end.wrapping_sub(1);
+    for i in 0..count {
         let row = plus(at, i);
         let any = roll_u8(seed, 2) % 2;
-        let one = if i == hot { 1 } else { 0 };
+        let one = u8::from(i == hot);
         let reset = if mixed { any } else { one };
         put_register(file, row, reset, plain(before));
         before = row;
@@ -99,7 +99,7 @@ fn put_bit(file: &mut [u8], at: usize, carry: u16) -> u16 {
 pub fn put_counter(file: &mut [u8], at: usize, bits: usize) -> usize {
     let mut carry: u16 = 1;
     let mut row = at;
-    'bits: for i in 0..bits {
+    for _ in 0..bits {
         carry = put_bit(file, row, carry);
         row = plus(row, 3);
     }
@@ -111,10 +111,10 @@ fn clock_literal(file: &[u8], seed: &mut u64, at: usize) -> u16 {
     let first = any_literal(seed, at);
     let second = any_literal(seed, at);
     let third = near_literal(seed, at);
-    if reference_rows::rows::kind_at(file, (first / 2) as usize) == 2 {
+    if kind_at(file, node_of(first)) == 2 {
         return first;
     }
-    if reference_rows::rows::kind_at(file, (second / 2) as usize) == 2 {
+    if kind_at(file, node_of(second)) == 2 {
         return second;
     }
     third
@@ -155,7 +155,7 @@ pub fn put_held(file: &mut [u8], seed: &mut u64, at: usize) -> usize {
 // A row of registers that fills with 1 from the first on, a register a step.
 pub fn put_stem(file: &mut [u8], at: usize, count: usize) -> usize {
     let mut before: u16 = 1;
-    'stem: for i in 0..count {
+    for i in 0..count {
         let row = plus(at, i);
         put_register(file, row, 0, before);
         before = plain(row);
@@ -166,11 +166,11 @@ pub fn put_stem(file: &mut [u8], at: usize, count: usize) -> usize {
 // A shift register, its first fed by the XOR of the last and another.
 pub fn put_feedback(file: &mut [u8], seed: &mut u64, at: usize, count: usize) -> usize {
     let end = plus(at, count);
-    let last = std::num::wrapping_sub_usize(end, 1);
+    let last = end.wrapping_sub(1);
     let tap = roll_from(seed, at, count);
     put_row(file, end, cells(4, 0, plain(last), plain(tap), 0));
     let mut before = end;
-    'shift: for i in 0..count {
+    for i in 0..count {
         let row = plus(at, i);
         put_register(file, row, 1, plain(before));
         before = row;
@@ -210,29 +210,13 @@ pub fn put_long_piece(file: &mut [u8], seed: &mut u64, at: usize) -> usize {
 // An open register gets a next value among the nodes.
 pub fn close_register(file: &mut [u8], seed: &mut u64, at: usize, nodes: usize) {
     let row = row_at(file, at);
-    if row.kind != 2 {
-        return;
+    if row.kind == 2 && row.c == 1 {
+        let next = any_literal(seed, nodes);
+        put_row(file, at, cells(2, row.reset, next, row.b, 0));
     }
-    if row.c != 1 {
-        return;
-    }
-    let next = any_literal(seed, nodes);
-    put_row(file, at, cells(2, row.reset, next, row.b, 0));
 }
 
 pub fn put_output(file: &mut [u8], seed: &mut u64, at: usize, nodes: usize) {
     let literal = any_literal(seed, nodes);
     put_row(file, at, cells(6, 0, literal, label_of(at), 0));
-}
-
-// ---- lists of words
-
-pub fn get_word(words: &[u16], at: usize) -> u16 {
-    if at < words.len() { words[at] } else { 0 }
-}
-
-pub fn put_word(words: &mut [u16], at: usize, value: u16) {
-    if at < words.len() {
-        words[at] = value;
-    }
 }
