@@ -151,13 +151,12 @@ pub fn fresh() -> [u64; SLOTS]
 }
 
 pub fn count(tally: &[u64], at: usize) -> u64 {
-    if at < tally.len() { tally[at] } else { 0 }
+    text::bytes::get(tally, at)
 }
 
 fn add_count(tally: &mut [u64], at: usize, more: u64) {
-    let before = count(tally, at);
     if at < tally.len() {
-        tally[at] = std::num::wrapping_add_u64(before, more);
+        tally[at] = tally[at].wrapping_add(more);
     }
 }
 
@@ -167,9 +166,9 @@ pub fn add(tally: &mut [u64], at: usize, more: usize) {
 
 // So many counts of another tally, from `from` on, are added to those from `to` on.
 pub fn take(own: &[u64], from: usize, size: usize, tally: &mut [u64], to: usize) {
-    'counts: for i in 0..size {
-        let more = count(own, std::num::wrapping_add_usize(from, i));
-        add_count(tally, std::num::wrapping_add_usize(to, i), more);
+    for i in 0..size {
+        let more = count(own, from.wrapping_add(i));
+        add_count(tally, to.wrapping_add(i), more);
     }
 }
 
@@ -184,10 +183,9 @@ pub fn print(rt: &impl Streams, text: &[u8], number: u64) {
 
 // One more, if that holds.
 pub fn add_if(tally: &mut [u64], at: usize, holds: bool) {
-    if !holds {
-        return;
+    if holds {
+        add(tally, at, 1);
     }
-    add(tally, at, 1);
 }
 
 // Two that should be the same: a difference is counted under its kind.
@@ -197,8 +195,8 @@ pub fn hold(tally: &mut [u64], same: bool, kind: usize) {
 
 fn sum_of(tally: &[u64], start: usize, end: usize) -> u64 {
     let mut sum: u64 = 0;
-    'counts: for at in start..end {
-        sum = std::num::wrapping_add_u64(sum, count(tally, at));
+    for at in start..end {
+        sum = sum.wrapping_add(count(tally, at));
     }
     sum
 }
@@ -213,8 +211,8 @@ fn print_count(rt: &impl Streams, tally: &[u64], text: &[u8], at: usize) {
 
 // The refusals with numbers from `start` on and before `end`; those of number 0 are counted at `base`.
 fn print_refusals(rt: &impl Streams, tally: &[u64], base: usize, start: usize, end: usize) {
-    'numbers: for number in start..end {
-        let at = std::num::wrapping_add_usize(base, number);
+    for number in start..end {
+        let at = base.wrapping_add(number);
         print(rt, b"  refused ", number as u64);
         print(rt, b": ", count(tally, at));
         write_all(rt, 1, b"\n");
