@@ -4,22 +4,9 @@ use reference_writing::writer::seal;
 use trial_pieces::dice::{roll, roll_from, roll_u8, roll_u16};
 use trial_pieces::pieces::{cells, plus};
 
-fn bit(k: usize) -> u8 {
-    match k {
-        0 => 1,
-        1 => 2,
-        2 => 4,
-        3 => 8,
-        4 => 16,
-        5 => 32,
-        6 => 64,
-        _ => 128,
-    }
-}
-
 fn flip(file: &mut [u8], at: usize, k: usize) {
     if at < file.len() {
-        file[at] = file[at] ^ bit(k);
+        file[at] ^= 1u8 << k.min(7);
     }
 }
 
@@ -57,13 +44,13 @@ pub fn put_damaged(file: &mut [u8], at: usize, row: Row) {
 fn change_kind(file: &mut [u8], seed: &mut u64, at: usize) {
     let row = row_at(file, at);
     let kind = roll_u8(seed, 9);
-    put_damaged(file, at, cells(kind, row.reset, row.a, row.b, row.c));
+    put_damaged(file, at, Row { kind, ..row });
 }
 
 fn change_reset(file: &mut [u8], seed: &mut u64, at: usize) {
     let row = row_at(file, at);
     let reset = roll_u8(seed, 4);
-    put_damaged(file, at, cells(row.kind, reset, row.a, row.b, row.c));
+    put_damaged(file, at, Row { reset, ..row });
 }
 
 // A field becomes another number, up to twice the rows and some more.
@@ -71,9 +58,9 @@ fn change_field(file: &mut [u8], seed: &mut u64, at: usize, rows: usize) {
     let row = row_at(file, at);
     let value = roll_u16(seed, 2 * (rows % 32768) + 4);
     let new = match roll(seed, 3) {
-        0 => cells(row.kind, row.reset, value, row.b, row.c),
-        1 => cells(row.kind, row.reset, row.a, value, row.c),
-        _ => cells(row.kind, row.reset, row.a, row.b, value),
+        0 => Row { a: value, ..row },
+        1 => Row { b: value, ..row },
+        _ => Row { c: value, ..row },
     };
     put_damaged(file, at, new);
 }
@@ -84,8 +71,8 @@ fn copy_fields(file: &mut [u8], seed: &mut u64, at: usize, rows: usize) {
     let from = row_at(file, roll(seed, rows));
     let new = match roll(seed, 3) {
         0 => from,
-        1 => cells(row.kind, row.reset, from.a, row.b, row.c),
-        _ => cells(row.kind, row.reset, row.a, from.b, row.c),
+        1 => Row { a: from.a, ..row },
+        _ => Row { b: from.b, ..row },
     };
     put_damaged(file, at, new);
 }
@@ -95,9 +82,9 @@ fn change_phase(file: &mut [u8], seed: &mut u64, at: usize) {
     let row = row_at(file, at);
     let phase = roll_u16(seed, 9);
     let new = if row.kind == 1 {
-        cells(1, row.reset, row.a, phase, row.c)
+        Row { b: phase, ..row }
     } else {
-        cells(row.kind, row.reset, row.a, row.b, phase)
+        Row { c: phase, ..row }
     };
     put_damaged(file, at, new);
 }
@@ -131,7 +118,7 @@ fn change(file: &mut [u8], seed: &mut u64, size: usize, what: usize) {
 
 // The last row becomes one of another kind, so that often no output is left.
 fn change_last(file: &mut [u8], seed: &mut u64, rows: usize) {
-    let last = std::num::wrapping_sub_usize(rows, 1);
+    let last = rows.wrapping_sub(1);
     let input = cells(1, 0, trial_pieces::pieces::label_of(last), 0, 0);
     let kind = roll_u8(seed, 7);
     let other = cells(kind, 0, 0, 0, 0);
@@ -142,7 +129,7 @@ fn change_last(file: &mut [u8], seed: &mut u64, rows: usize) {
 // Another length: cut anywhere, or by a block, or a block longer.
 fn change_size(seed: &mut u64, size: usize) -> usize {
     let cut = roll(seed, plus(size, 1));
-    let shorter = std::num::wrapping_sub_usize(size, 512);
+    let shorter = size.wrapping_sub(512);
     let longer = plus(size, 512);
     match roll(seed, 4) {
         0 => shorter,

@@ -14,6 +14,16 @@ pub struct Style {
     pub rows: usize,
 }
 
+// What most netlists have in common.
+pub const PLAIN: Style = Style {
+    nodes: 0,
+    outputs: 16,
+    gates: 40,
+    long: false,
+    registers: 0,
+    rows: 0,
+};
+
 // A piece more, while there is room.
 fn put_next(file: &mut [u8], seed: &mut u64, style: Style, at: usize) -> usize {
     if at >= style.nodes {
@@ -25,21 +35,20 @@ fn put_next(file: &mut [u8], seed: &mut u64, style: Style, at: usize) -> usize {
 
 fn put_nodes(file: &mut [u8], seed: &mut u64, style: Style, from: usize) -> usize {
     let mut at = from;
-    let pieces = style.nodes;
-    'pieces: for i in 0..pieces {
+    for _ in 0..style.nodes {
         at = put_next(file, seed, style, at);
     }
     at
 }
 
 fn close_registers(file: &mut [u8], seed: &mut u64, nodes: usize) {
-    'rows: for at in 0..nodes {
+    for at in 0..nodes {
         trial_pieces::pieces::close_register(file, seed, at, nodes);
     }
 }
 
 fn put_outputs(file: &mut [u8], seed: &mut u64, nodes: usize, outputs: usize) {
-    'outputs: for i in 0..outputs {
+    for i in 0..outputs {
         trial_pieces::pieces::put_output(file, seed, plus(nodes, i), nodes);
     }
 }
@@ -54,13 +63,13 @@ fn put_first(file: &mut [u8], seed: &mut u64, style: Style) -> usize {
 }
 
 fn put_registers(file: &mut [u8], seed: &mut u64, from: usize, end: usize) {
-    'rows: for at in from..end {
+    for at in from..end {
         trial_pieces::pieces::put_open_register(file, seed, at);
     }
 }
 
 fn put_inputs(file: &mut [u8], from: usize, end: usize) {
-    'rows: for at in from..end {
+    for at in from..end {
         trial_pieces::pieces::put_input(file, at);
     }
 }
@@ -87,11 +96,7 @@ fn fill_rows(file: &mut [u8], at: usize, end: usize) -> usize {
 
 // How many nodes there are to be, for so many rows with the outputs.
 fn nodes_of(style: Style, outputs: usize) -> usize {
-    if style.rows < outputs {
-        0
-    } else {
-        style.rows - outputs
-    }
+    style.rows.saturating_sub(outputs)
 }
 
 // The nodes; the answer is how many.
@@ -114,7 +119,7 @@ pub fn put_netlist(file: &mut [u8], seed: &mut u64, style: Style) -> usize {
 // A counter with its last bit as output; the answer is the file's length.
 pub fn put_counter(file: &mut [u8], bits: usize) -> usize {
     let nodes = trial_pieces::pieces::put_counter(file, 1, bits);
-    let last = std::num::wrapping_sub_usize(nodes, 3);
+    let last = nodes.wrapping_sub(3);
     let output = trial_pieces::pieces::cells(6, 0, trial_pieces::dice::plain(last), 0, 0);
     reference_rows::rows::put_row(file, nodes, output);
     reference_writing::writer::close(file, plus(nodes, 1))
@@ -126,12 +131,11 @@ fn small(seed: &mut u64) -> Style {
     let gates = roll(seed, 12);
     let long = chance(seed, 8);
     Style {
-        nodes: nodes,
+        nodes,
         outputs: 5,
-        gates: gates,
-        long: long,
-        registers: 0,
-        rows: 0,
+        gates,
+        long,
+        ..PLAIN
     }
 }
 
@@ -141,12 +145,10 @@ fn large(seed: &mut u64) -> Style {
     let gates = roll_from(seed, 16, 40);
     let long = chance(seed, 3);
     Style {
-        nodes: nodes,
-        outputs: 16,
-        gates: gates,
-        long: long,
-        registers: 0,
-        rows: 0,
+        nodes,
+        gates,
+        long,
+        ..PLAIN
     }
 }
 
@@ -156,12 +158,10 @@ fn at_limits(seed: &mut u64) -> Style {
     let registers = roll_from(seed, 255, 3);
     let rows = roll_from(seed, 1008, 2);
     Style {
-        nodes: nodes,
-        outputs: 16,
-        gates: 40,
-        long: false,
-        registers: registers,
-        rows: rows,
+        nodes,
+        registers,
+        rows,
+        ..PLAIN
     }
 }
 
@@ -170,12 +170,9 @@ fn past_limits(seed: &mut u64) -> Style {
     let nodes = roll_from(seed, 1009, 6000);
     let rows = if chance(seed, 2) { 8064 } else { 0 };
     Style {
-        nodes: nodes,
-        outputs: 16,
-        gates: 40,
-        long: false,
-        registers: 0,
-        rows: rows,
+        nodes,
+        rows,
+        ..PLAIN
     }
 }
 
