@@ -1,7 +1,7 @@
 // The names and the uses that ASCII AIGER texts by chance are made of, and what is wrong in them.
 #![tactic(auto)]
 
-use text::numbers::number_at;
+use text::bytes::{get, put};
 use trial_pieces::dice::{chance, roll, roll_from};
 use trial_pieces::pieces::plus;
 
@@ -39,16 +39,10 @@ pub const NO_OUTPUT: usize = 7;
 pub const LOOP: usize = 8;
 
 // Stands for a literal that no line defines.
-pub const STRANGER: u32 = 4294967295;
+pub const STRANGER: u32 = u32::MAX;
 
 pub fn minus(x: usize, y: usize) -> usize {
-    std::num::wrapping_sub_usize(x, y)
-}
-
-pub fn put_number(numbers: &mut [u32], at: usize, value: u32) {
-    if at < numbers.len() {
-        numbers[at] = value;
-    }
+    x.wrapping_sub(y)
 }
 
 pub fn short(value: usize) -> u32 {
@@ -74,10 +68,10 @@ pub fn rows_of(plan: Plan) -> usize {
 // ---- two numbers change places
 
 pub fn swap(numbers: &mut [u32], x: usize, y: usize) {
-    let first = number_at(numbers, x);
-    let second = number_at(numbers, y);
-    put_number(numbers, x, second);
-    put_number(numbers, y, first);
+    let first = get(numbers, x);
+    let second = get(numbers, y);
+    put(numbers, x, second);
+    put(numbers, y, first);
 }
 
 pub fn swap_if(moved: bool, numbers: &mut [u32], x: usize, y: usize) {
@@ -88,7 +82,7 @@ pub fn swap_if(moved: bool, numbers: &mut [u32], x: usize, y: usize) {
 
 // Each of these with one before it, one time in `rarely`.
 pub fn mix(seed: &mut u64, numbers: &mut [u32], from: usize, end: usize, rarely: usize) {
-    'numbers: for at in from..end {
+    for at in from..end {
         let sides = plus(minus(at, from), 1);
         let other = roll_from(seed, from, sides);
         let moved = chance(seed, rarely);
@@ -126,20 +120,19 @@ pub fn step_of(seed: &mut u64, kind: usize) -> u32 {
 pub fn put_names(seed: &mut u64, plan: Plan, names: &mut [u32]) {
     let mut literal: u32 = 0;
     let nodes = nodes_of(plan);
-    'nodes: for node in 0..nodes {
-        let down = std::num::wrapping_sub_u32(0, literal);
+    for node in 0..nodes {
+        let down = 0u32.wrapping_sub(literal);
         let name = if plan.turned { down } else { literal };
-        put_number(names, node, name);
-        literal = std::num::wrapping_add_u32(literal, step_of(seed, plan.step));
+        put(names, node, name);
+        literal = literal.wrapping_add(step_of(seed, plan.step));
     }
     mix_some(seed, names, 1, nodes, plan.mixed);
 }
 
 pub fn largest(names: &[u32], nodes: usize) -> u32 {
-    let mut top: u32 = 0;
-    'nodes: for node in 0..nodes {
-        let name = number_at(names, node);
-        top = if name > top { name } else { top };
+    let mut top = 0;
+    for node in 0..nodes {
+        top = get(names, node).max(top);
     }
     top
 }
@@ -151,11 +144,11 @@ pub fn put_order(seed: &mut u64, plan: Plan, order: &mut [u32]) {
     let sources = sources_of(plan);
     let nodes = nodes_of(plan);
     let turned = plan.order == 3;
-    'nodes: for rank in 0..nodes {
+    for rank in 0..nodes {
         let back = minus(plus(sources, minus(nodes, rank)), 1);
         let down = turned && rank >= sources;
         let node = if down { back } else { rank };
-        put_number(order, rank, short(node));
+        put(order, rank, short(node));
     }
     mix_some(seed, order, sources, nodes, plan.order % 3);
 }
@@ -166,17 +159,17 @@ pub fn earlier(seed: &mut u64, order: &[u32], rank: usize) -> u32 {
     let any = roll(seed, rank);
     let near = if back > rank { any } else { minus(rank, back) };
     let place = if chance(seed, 2) { near } else { any };
-    let node = number_at(order, place) as usize;
+    let node = get(order, place) as usize;
     short(plus(twice(node), roll(seed, 2)))
 }
 
 pub fn put_operands(seed: &mut u64, plan: Plan, order: &[u32], uses: &mut [u32]) {
     let sources = sources_of(plan);
     let nodes = nodes_of(plan);
-    'gates: for rank in sources..nodes {
-        let node = number_at(order, rank) as usize;
-        put_number(uses, twice(node), earlier(seed, order, rank));
-        put_number(uses, plus(twice(node), 1), earlier(seed, order, rank));
+    for rank in sources..nodes {
+        let node = get(order, rank) as usize;
+        put(uses, twice(node), earlier(seed, order, rank));
+        put(uses, plus(twice(node), 1), earlier(seed, order, rank));
     }
 }
 
@@ -189,8 +182,8 @@ pub fn any_use(seed: &mut u64, nodes: usize) -> u32 {
 // What rows `from` to `end` use first: any node.
 pub fn put_uses(seed: &mut u64, plan: Plan, uses: &mut [u32], from: usize, end: usize) {
     let nodes = nodes_of(plan);
-    'rows: for row in from..end {
-        put_number(uses, twice(row), any_use(seed, nodes));
+    for row in from..end {
+        put(uses, twice(row), any_use(seed, nodes));
     }
 }
 
@@ -198,10 +191,10 @@ pub fn put_uses(seed: &mut u64, plan: Plan, uses: &mut [u32], from: usize, end: 
 pub fn redraw(seed: &mut u64, plan: Plan, uses: &mut [u32], count: usize) {
     let sources = sources_of(plan);
     let nodes = nodes_of(plan);
-    'gates: for i in 0..count {
+    for _ in 0..count {
         let gate = roll_from(seed, sources, plan.gates);
         let side = roll(seed, 2);
-        put_number(uses, plus(twice(gate), side), any_use(seed, nodes));
+        put(uses, plus(twice(gate), side), any_use(seed, nodes));
     }
 }
 
@@ -222,13 +215,12 @@ pub fn spoil_names(seed: &mut u64, plan: Plan, names: &mut [u32]) {
     let others = minus(nodes_of(plan), 1);
     let one = roll_from(seed, 1, others);
     let two = roll_from(seed, 1, others);
-    let odd = std::num::wrapping_add_u32(number_at(names, two), 1);
+    let odd = get(names, two).wrapping_add(1);
     let wrong = if chance(seed, 2) { odd } else { 0 };
-    let again = number_at(names, one);
+    let again = get(names, one);
     let name = if plan.fault == TWICE { again } else { wrong };
-    let spoiled = plan.fault == TWICE || plan.fault == DEFINITION;
-    if spoiled {
-        put_number(names, two, name);
+    if plan.fault == TWICE || plan.fault == DEFINITION {
+        put(names, two, name);
     }
 }
 
@@ -245,7 +237,7 @@ pub fn spoil_uses(seed: &mut u64, plan: Plan, uses: &mut [u32]) {
         twice(row)
     };
     if plan.fault == UNDEFINED {
-        put_number(uses, at, STRANGER);
+        put(uses, at, STRANGER);
     }
 }
 
@@ -255,14 +247,14 @@ pub fn put_loop(seed: &mut u64, plan: Plan, uses: &mut [u32]) {
     }
     let gate = roll_from(seed, sources_of(plan), plan.gates);
     let side = roll(seed, 2);
-    put_number(uses, plus(twice(gate), side), short(twice(gate)));
+    put(uses, plus(twice(gate), side), short(twice(gate)));
 }
 
 // A literal that no line defines, or rarely does.
 pub fn stranger_of(seed: &mut u64, plan: Plan, names: &[u32], maximum: usize) -> usize {
     let above = plus(plus(maximum, maximum), 2);
     let node = roll(seed, nodes_of(plan));
-    let beside = plus(number_at(names, node) as usize, 2);
+    let beside = plus(get(names, node) as usize, 2);
     let inverted = roll(seed, 2);
     let any = roll(seed, 4294967296);
     let literal = match roll(seed, 4) {
