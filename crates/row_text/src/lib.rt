@@ -6,8 +6,7 @@ ghost use Rattle.blockfile.specs.RowCode.{Small};
 
 use blockfile::Fields;
 use listing::rows::MOST_ROWS;
-use text::bytes::{find, is_blank};
-use text::numbers::number_at;
+use text::bytes::{find, get, is_blank};
 
 // Larger than every field; a number that is larger still is read as this.
 pub const LARGE: u32 = 65536;
@@ -129,7 +128,7 @@ pub fn word_of(text: &[u8]) -> &[u8] {
 
 // Whether a, b and c have 16 bits.
 fn fields_fit(numbers: &[u32]) -> bool {
-    number_at(numbers, 3) < LARGE && number_at(numbers, 4) < LARGE && number_at(numbers, 5) < LARGE
+    get(numbers, 3) < LARGE && get(numbers, 4) < LARGE && get(numbers, 5) < LARGE
 }
 
 // Whether six numbers are the next row.
@@ -137,13 +136,13 @@ fn row_line(numbers: &[u32], rows: usize) -> Result<(), LineRefusal> {
     if MOST_ROWS <= rows {
         return Err(LineRefusal::Rows);
     }
-    if number_at(numbers, 0) as usize != rows {
+    if get(numbers, 0) as usize != rows {
         return Err(LineRefusal::Order);
     }
-    if 255 < number_at(numbers, 1) {
+    if 255 < get(numbers, 1) {
         return Err(LineRefusal::Kind);
     }
-    if 255 < number_at(numbers, 2) {
+    if 255 < get(numbers, 2) {
         return Err(LineRefusal::Reset);
     }
     if !fields_fit(numbers) {
@@ -186,11 +185,11 @@ fn low_field(value: u32) -> usize
 fn fields_in(numbers: &[u32]) -> Fields
     ensures { Small result }
 {
-    let kind = low_byte(number_at(numbers, 1));
-    let reset = low_byte(number_at(numbers, 2));
-    let a = low_field(number_at(numbers, 3));
-    let b = low_field(number_at(numbers, 4));
-    let c = low_field(number_at(numbers, 5));
+    let kind = low_byte(get(numbers, 1));
+    let reset = low_byte(get(numbers, 2));
+    let a = low_field(get(numbers, 3));
+    let b = low_field(get(numbers, 4));
+    let c = low_field(get(numbers, 5));
     Fields {
         kind,
         reset,
