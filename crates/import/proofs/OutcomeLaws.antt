@@ -3,12 +3,14 @@
 use Prim.Native.Nat.{ℕ, ◌+◌, ◌*◌, ◌<◌, ◌≤◌}
 use mathlib.Core.Path.{◌≡◌, refl, sym, ap, ◌∙◌, subst}
 use mathlib.Core.Bool.{Bool, true, false, cond, not, ◌&&◌, false≢true}
+use mathlib.Core.Logic.{◌⊎◌, inl, inr}
 use mathlib.Core.List.{List}
 use mathlib.Core.Option.{some, none}
 use native.Mathlib.Omega.{arith}
 use lib.ListN.{length, drop, replicate}
 use lib.Dec.{leb}
 use borrow.Author.Tests.{leb-true, leb-false, le-leb, lt-leb, not-true, not-false}
+use Rattle.std.specs.Prelude.{Option, Some, None, Result, Err}
 use Rattle.netlist.specs.Limits.{most_rows, row_work_bytes, import_result_bytes, import_work_bytes}
 use Rattle.netlist.specs.FileFormat.{blocks_for, file_in}
 use Rattle.netlist.proofs.WorkLaws.{work-most}
@@ -30,15 +32,12 @@ use Rattle.gate_rows.specs.declared.Layout.TheVariants as layout
 use Rattle.row_sorter.specs.Placing.{RowsSorted}
 use Rattle.aiger_lines.specs.Lines.{header_in, headed_read, aiger_in, lines_stand, FewHeader, FewHeaded, Counted}
 use Rattle.aiger_lines.specs.declared.Header.{Header}
-use Rattle.aiger_lines.specs.declared.Headed.{Headed}
-use Rattle.aiger_lines.specs.declared.Headed.TheVariants as headings
 use Rattle.aiger_lines.proofs.ReadingLaws.{after_none}
 use Rattle.aiger_lines.proofs.LineLaws.{none-stands, counted-lines, lines-text}
 use Rattle.aiger_names.specs.Names.{name_bytes, NamesRoom, PairsStand}
 use Rattle.import_answers.specs.ImportAnswers.{importing_refusal, rows_in}
 use Rattle.import_answers.specs.ImportOutcome.{Imported}
-use Rattle.import_answers.specs.declared.Importing.{Importing}
-use Rattle.import_answers.specs.declared.Importing.TheVariants.{Refused}
+use Rattle.import_answers.specs.declared.ImportRefusal.{ImportRefusal}
 use Rattle.import_answers.specs.declared.ImportRefusal.TheVariants.{Memory, Text, Rows}
 use Rattle.import_answers.proofs.ImportedLaws.{import-refused, import-answered}
 use Rattle.import.specs.ImportParts.{pairs_in, text_refusal, TextImported}
@@ -51,9 +50,6 @@ file-room layout s n result S h = omega (arith, S.few, h)
 -- Work has room for the slots of any file.
 pub slots-room : (n work : ℕ) → import_work_bytes ≤ work → row_work_bytes n ≤ work
 slots-room n work h = omega (arith, work-most n, h)
-
-pub pairs-kept : (t : Bool) (x y : ℕ) → t ≡ true → x ≡ cond t x y
-pairs-kept t x y e = rw e
 
 -- Rows fit a file or not, and the tree of names stands behind their pairs.
 pub names-room : (x : Header) (k : ℕ) (fits : Bool) (base : ℕ) (w : List ℕ) → k ≡ line_count (header_in x) → fits ≡ leb (1 + k) most_rows → base ≡ cond fits (4 * (1 + k)) 0 → name_bytes ≤ length w → NamesRoom (header_in x) fits base w
@@ -74,7 +70,7 @@ module _ (text : List ℕ) where
   unfolding text_refusal
   other_text h = rw h
 
-  pub text-refused : (result : List ℕ) → is_text text ≡ false → TextImported text result result (Refused Text)
+  pub text-refused : (result : List ℕ) → is_text text ≡ false → TextImported text result result (Err Text)
   text-refused result h = let e = other_text h in record { refusal = sym e; rows = rw e; written = rw e }
 
   lines_other : lines_stand text ≡ false → is_text text ≡ false
@@ -84,14 +80,14 @@ module _ (text : List ℕ) where
   unfolding read_lines
   unheaded h = none-stands text (after_none header _ text h)
 
-  pub header_refused : (result : List ℕ) (r : Headed) → headed_read text r ≡ header text → r ≡ headings.Other → TextImported text result result (Refused Text)
+  pub header_refused : (result : List ℕ) (r : Option (Header × ℕ)) → headed_read text r ≡ header text → r ≡ None → TextImported text result result (Err Text)
   header_refused result r e o = text-refused result (lines_other (unheaded (sym e ∙ ap (headed_read text) o)))
 
-  pub lines-refused : (result : List ℕ) (r : Bool) → r ≡ lines_stand text → r ≡ false → TextImported text result result (Refused Text)
+  pub lines-refused : (result : List ℕ) (r : Bool) → r ≡ lines_stand text → r ≡ false → TextImported text result result (Err Text)
   lines-refused result r e o = text-refused result (lines_other (sym e ∙ o))
 
   module _ (stand : lines_stand text ≡ true) (r : Bool) (names : r ≡ is_distinct (aiger_in text) && is_defined (aiger_in text)) where
-    pub names-refused : (result : List ℕ) → not r ≡ true → TextImported text result result (Refused Text)
+    pub names-refused : (result : List ℕ) → not r ≡ true → TextImported text result result (Err Text)
     names-refused result o = text-refused result (unread (lines-text text ∙ rw (stand, sym names ∙ not-true r o)))
 
     module _ (o : not r ≡ false) where
@@ -125,10 +121,10 @@ module _ (text : List ℕ) where
         all : length (text_rows text) ≡ n
         all = omega (arith, count-is, e, ap line_count is)
 
-        pub rows-refused : most_rows < n → TextImported text result result (Refused Rows)
+        pub rows-refused : most_rows < n → TextImported text result result (Err Rows)
         rows-refused h = let k = many (omega (arith, all, h)) in record { refusal = sym k; rows = rw k; written = rw k }
 
-        pub rows-imported : n ≤ most_rows → (w : List ℕ) → PairsStand (aiger_in text) w → (answer : Importing) → RowsSorted (source_rows (layout.Pairs (pairs_in x)) w) result result' (importing_refusal answer) (rows_in answer) → TextImported text result result' answer
+        pub rows-imported : n ≤ most_rows → (w : List ℕ) → PairsStand (aiger_in text) w → (answer : Result ℕ ImportRefusal) → RowsSorted (source_rows (layout.Pairs (pairs_in x)) w) result result' (importing_refusal answer) (rows_in answer) → TextImported text result result' answer
         rows-imported h w S answer D =
             let k = few (omega (arith, all, h)) in
             let D' : RowsSorted (text_rows text) result result' (importing_refusal answer) (rows_in answer) = rw (← rows-stand x is w S) D in
@@ -137,14 +133,14 @@ module _ (text : List ℕ) where
 -- ---- what `import_lines` knows: the text's lines stand, x is their header, n counts the rows, r says whether the names are right
 
 module _ (text : List ℕ) (x : Header) (from : ℕ) (C : Counted text x from) (r : Bool) (names : r ≡ is_distinct (aiger_in text) && is_defined (aiger_in text)) where
-  pub lines-unnamed : (result : List ℕ) → not r ≡ true → TextImported text result result (Refused Text)
+  pub lines-unnamed : (result : List ℕ) → not r ≡ true → TextImported text result result (Err Text)
   lines-unnamed result o = names-refused text C.stand r names result o
 
   module _ (o : not r ≡ false) (k : ℕ) (e : k ≡ line_count (header_in x)) where
     all-rows : 1 + k ≡ 1 + line_count (header_in x)
     all-rows = ap (λ (m : ℕ). 1 + m) e
 
-    pub lines-many : (result : List ℕ) → not (leb (1 + k) most_rows) ≡ true → TextImported text result result (Refused Rows)
+    pub lines-many : (result : List ℕ) → not (leb (1 + k) most_rows) ≡ true → TextImported text result result (Err Rows)
     lines-many result t = rows-refused text C.stand r names o x C.header (1 + k) all-rows result result (leb-false (1 + k) most_rows (not-true (leb (1 + k) most_rows) t))
 
     module _ (t : not (leb (1 + k) most_rows) ≡ false) (w : List ℕ) (S : r ≡ true → leb (1 + k) most_rows ≡ true → PairsStand (aiger_in text) w) where
@@ -157,12 +153,12 @@ module _ (text : List ℕ) (x : Header) (from : ℕ) (C : Counted text x from) (
       pub lines-source : (w₀ : List ℕ) → length w ≡ length w₀ → name_bytes ≤ length w₀ → Source (layout.Pairs (pairs_in x)) w (1 + k)
       lines-source w₀ same long = text-source (aiger_in text) w stand x C.header (said-right text C.stand r names o) (1 + k) all-rows few-rows (omega (arith, same, long))
 
-      pub lines-imported : (result result' : List ℕ) (answer : Importing) → RowsSorted (source_rows (layout.Pairs (pairs_in x)) w) result result' (importing_refusal answer) (rows_in answer) → TextImported text result result' answer
+      pub lines-imported : (result result' : List ℕ) (answer : Result ℕ ImportRefusal) → RowsSorted (source_rows (layout.Pairs (pairs_in x)) w) result result' (importing_refusal answer) (rows_in answer) → TextImported text result result' answer
       lines-imported result result' answer D = rows-imported text C.stand r names o x C.header (1 + k) all-rows result result' few-rows w stand answer D
 
 -- ---- what `import_text` knows
 
-module _ (text : List ℕ) (d : Headed) (e : headed_read text d ≡ header text) (F : FewHeaded text d) (x : Header) (from : ℕ) (is : d ≡ headings.Is x from) where
+module _ (text : List ℕ) (d : Option (Header × ℕ)) (e : headed_read text d ≡ header text) (F : FewHeaded text d) (x : Header) (from : ℕ) (is : d ≡ Some (x, from)) where
   few-is : FewHeader x × (from ≤ length text)
   few-is = subst (FewHeaded text) is F
 
@@ -180,24 +176,22 @@ module _ (text : List ℕ) (d : Headed) (e : headed_read text d ≡ header text)
 
 -- ---- the outcome
 
-module _ (result work : List ℕ) (right : Bool) (e : right ≡ leb import_result_bytes (length result) && leb import_work_bytes (length work)) (o : right ≡ true) where
-  pub result-room : import_result_bytes ≤ length result
-  result-room = ((import_memory_right-iff (length result) (length work)).0 (sym e ∙ o)).0
-
-  pub work-room : import_work_bytes ≤ length work
-  work-room = ((import_memory_right-iff (length result) (length work)).0 (sym e ∙ o)).1
-
-module _ (text result : List ℕ) (work : List ℕ) where
-  pub memory-refused : (right : Bool) → right ≡ leb import_result_bytes (length result) && leb import_work_bytes (length work) → right ≡ false → (work' : List ℕ) → work' ≡ replicate (length work) 0 → Imported text result result work work' (Refused Memory)
+module _ (text result work work' : List ℕ) (clear : work' ≡ replicate (length work) 0) where
+  refused : import_memory_right (length result) (length work) ≡ false → Imported text result result work work' (Err Memory)
   unfolding import_refusal
-  memory-refused right e o work' clear = let no : import_memory_right (length result) (length work) ≡ false = sym e ∙ o in import-refused text result work work' clear Memory (rw no)
+  refused short = import-refused text result work work' clear Memory (rw short)
 
-  module _ (right : Bool) (e : right ≡ leb import_result_bytes (length result) && leb import_work_bytes (length work)) (o : right ≡ true) (result' : List ℕ) (answer : Importing) (D : TextImported text result result' answer) where
-    refusal_is : importing_refusal answer ≡ import_refusal text (length result) (length work)
-    unfolding import_refusal text_refusal
-    refusal_is = D.refusal ∙ sym (let yes : import_memory_right (length result) (length work) ≡ true = sym e ∙ o in rw yes refl)
+  -- Work is short, or the result.
+  pub memory-refused : (import_result_bytes ≤ length result × length work < import_work_bytes) ⊎ (length result < import_result_bytes) → Imported text result result work work' (Err Memory)
+  memory-refused (inl h) = refused (rw (le-leb import_result_bytes (length result) h.0, lt-leb import_work_bytes (length work) h.1))
+  memory-refused (inr h) = refused (rw (lt-leb import_result_bytes (length result) h))
 
-    pub text-imported : (w work' : List ℕ) → length w ≡ length work → work' ≡ replicate (length w) 0 → Imported text result result' work work' answer
-    text-imported w work' long clear =
-        import-answered text result work work' (clear ∙ ap (λ (k : ℕ). replicate k 0) long) result' answer refusal_is (D.rows ∙ ap (λ (q : Refusal). unless_refused q (length (text_rows text)) 0) (sym D.refusal))
-        (D.written ∙ ap (λ (q : Refusal). unless_refused q (file_in (sorted_netlist (text_rows text)) result) result) (sym D.refusal))
+module _ (text result work : List ℕ) (result-long : import_result_bytes ≤ length result) (work-long : import_work_bytes ≤ length work) (result' : List ℕ) (answer : Result ℕ ImportRefusal) (D : TextImported text result result' answer) where
+  refusal_is : importing_refusal answer ≡ import_refusal text (length result) (length work)
+  unfolding import_refusal text_refusal
+  refusal_is = D.refusal ∙ sym (let yes : import_memory_right (length result) (length work) ≡ true = (import_memory_right-iff (length result) (length work)).1 (result-long, work-long) in rw yes refl)
+
+  pub text-imported : (w work' : List ℕ) → length w ≡ length work → work' ≡ replicate (length w) 0 → Imported text result result' work work' answer
+  text-imported w work' long clear =
+      import-answered text result work work' (clear ∙ ap (λ (k : ℕ). replicate k 0) long) result' answer refusal_is (D.rows ∙ ap (λ (q : Refusal). unless_refused q (length (text_rows text)) 0) (sym D.refusal))
+      (D.written ∙ ap (λ (q : Refusal). unless_refused q (file_in (sorted_netlist (text_rows text)) result) result) (sym D.refusal))

@@ -13,15 +13,20 @@ ghost use Rattle.import_answers.specs.ImportAnswers.{importing_refusal, rows_in}
 ghost use Rattle.import_answers.specs.ImportOutcome.{Imported};
 ghost use Rattle.import.specs.ImportParts.{pairs_in, TextImported};
 
-use aiger_lines::{Headed, Header};
+use aiger_lines::Header;
 use aiger_names::NAME_BYTES;
-use blockfile::both;
 use gate_rows::{Layout, Pairs};
-use import_answers::{ImportRefusal, Importing};
+use import_answers::ImportRefusal;
 use netlist::{IMPORT_RESULT_BYTES, IMPORT_WORK_BYTES, MOST_FILE_ROWS};
 
 // 22, and the sorted file if it is passed: the pairs of the rows stand in `pairs`.
-fn sort_pairs(h: Header, rows: usize, pairs: &[u8], res: &mut [u8], slots: &mut [u8]) -> Importing
+fn sort_pairs(
+    h: Header,
+    rows: usize,
+    pairs: &[u8],
+    res: &mut [u8],
+    slots: &mut [u8],
+) -> Result<u32, ImportRefusal>
     requires { Source (layout.Pairs (pairs_in h)) pairs.now rows × ((import_result_bytes ≤ length res.old) × (import_work_bytes ≤ length slots.old)) }
     ensures rows_sorted { RowsSorted (source_rows (layout.Pairs (pairs_in h)) pairs.now) res.old res.new (importing_refusal result) (rows_in result) }
     ensures slots_len_unchanged { length slots.new ≡ length slots.old }
@@ -35,10 +40,9 @@ fn sort_pairs(h: Header, rows: usize, pairs: &[u8], res: &mut [u8], slots: &mut 
     let first = row_sorter::sort_rows(pairs, Layout::Pairs(counts), res, slots, rows);
     if first < rows {
         let row = first as u32;
-        return Importing::Refused(ImportRefusal::Loop { row: row });
+        return Err(ImportRefusal::Loop { row });
     }
-    let count = rows as u32;
-    Importing::Done { rows: count }
+    Ok(rows as u32)
 }
 
 // Where the tree of names begins: behind the pairs, if these are kept.
@@ -46,10 +50,7 @@ fn tree_offset(fits: bool, rows: usize) -> usize
     requires { rows < 2 ^ 60 }
     ensures { result ≡ cond fits (4 * rows) 0 }
 {
-    if fits {
-        return 4 * rows;
-    }
-    0
+    if fits { 4 * rows } else { 0 }
 }
 
 // What is left of 24, and 25 and 22, of a text whose lines are right by themselves: `names` is for the names and pairs, `slots` for the sorter.
@@ -60,7 +61,7 @@ fn import_names(
     res: &mut [u8],
     names: &mut [u8],
     slots: &mut [u8],
-) -> Importing
+) -> Result<u32, ImportRefusal>
     requires counted { Counted text.now h from × ((import_result_bytes ≤ length res.old) × (import_work_bytes ≤ length slots.old)) }
     requires name_bytes_in_bounds { name_bytes ≤ length names.old }
     ensures text_imported { TextImported text.now res.old res.new result }
@@ -70,10 +71,10 @@ fn import_names(
     let fits = rows <= MOST_FILE_ROWS;
     let base = tree_offset(fits, rows);
     if !aiger_names::names_right(text, h, from, fits, base, &mut *names) {
-        return Importing::Refused(ImportRefusal::Text);
+        return Err(ImportRefusal::Text);
     }
     if !fits {
-        return Importing::Refused(ImportRefusal::Rows);
+        return Err(ImportRefusal::Rows);
     }
     sort_pairs(h, rows, names, res, slots)
 }
@@ -86,7 +87,13 @@ pub fn name_room() -> [u8; NAME_BYTES]
 }
 
 // The same, with an array for the names.
-fn import_lines(text: &[u8], h: Header, from: usize, res: &mut [u8], work: &mut [u8]) -> Importing
+fn import_lines(
+    text: &[u8],
+    h: Header,
+    from: usize,
+    res: &mut [u8],
+    work: &mut [u8],
+) -> Result<u32, ImportRefusal>
     requires { Counted text.now h from × ((import_result_bytes ≤ length res.old) × (import_work_bytes ≤ length work.old)) }
     ensures text_imported { TextImported text.now res.old res.new result }
     ensures work_len_unchanged { length work.new ≡ length work.old }
@@ -96,36 +103,31 @@ fn import_lines(text: &[u8], h: Header, from: usize, res: &mut [u8], work: &mut 
 }
 
 // 24, 25 and 22.
-fn import_text(text: &[u8], res: &mut [u8], work: &mut [u8]) -> Importing
+fn import_text(text: &[u8], res: &mut [u8], work: &mut [u8]) -> Result<u32, ImportRefusal>
     requires { (import_result_bytes ≤ length res.old) × (import_work_bytes ≤ length work.old) }
     ensures text_imported { TextImported text.now res.old res.new result }
     ensures work_len_unchanged { length work.new ≡ length work.old }
 {
-    match aiger_lines::read_header(text) {
-        Headed::Other => Importing::Refused(ImportRefusal::Text),
-        Headed::Is(h, from) => {
-            if aiger_lines::lines_right(text, h, from) {
-                import_lines(text, h, from, res, work)
-            } else {
-                Importing::Refused(ImportRefusal::Text)
-            }
-        }
+    let Some((h, from)) = aiger_lines::read_header(text) else {
+        return Err(ImportRefusal::Text);
+    };
+    if aiger_lines::lines_right(text, h, from) {
+        import_lines(text, h, from, res, work)
+    } else {
+        Err(ImportRefusal::Text)
     }
 }
 
-// The text's netlist as a file in `result`, with zeros to its end; a refusal leaves it as it was. Work is cleared on every return.
-pub fn import(text: &[u8], res: &mut [u8], work: &mut [u8]) -> Importing
+// The text's netlist as a file in `result`, with zeros to its end, and how many rows it has; a refusal leaves it as it was. Work is cleared on every return.
+pub fn import(text: &[u8], res: &mut [u8], work: &mut [u8]) -> Result<u32, ImportRefusal>
     ensures { Imported text.now res.old res.new work.old work.new result }
 {
-    if both(
-        IMPORT_RESULT_BYTES <= res.len(),
-        IMPORT_WORK_BYTES <= work.len(),
-    ) {
+    if IMPORT_RESULT_BYTES <= res.len() && IMPORT_WORK_BYTES <= work.len() {
         let answer = import_text(text, res, &mut *work);
         memory::clear(work);
         answer
     } else {
         memory::clear(work);
-        Importing::Refused(ImportRefusal::Memory)
+        Err(ImportRefusal::Memory)
     }
 }

@@ -10,8 +10,8 @@ lines_right-requires c = record { text_value = (search header_is, search header-
 pub import_lines-requires : goal.import_lines-requires
 import_lines-requires c = (search header-counted, search rules)
 
-pub returns-in-Other : goal.returns-in-Other
-returns-in-Other c = record { text_imported = search (header_refused, rules); work_len_unchanged = search rules }
+pub returns-in_default : goal.returns-in_default
+returns-in_default c = record { text_imported = search (header_refused, rules); work_len_unchanged = search rules }
 
 pub returns-else-lines_right : goal.returns-else-lines_right
 returns-else-lines_right c = record { text_imported = search (lines-refused, rules); work_len_unchanged = search rules }
