@@ -1,7 +1,7 @@
 // ASCII AIGER texts by chance: how many lines of each section, what the lines are, and damage done to them.
 #![tactic(auto)]
 
-use text::numbers::number_at;
+use text::bytes::{find, get, put};
 use text::out::{Out, one, put_filled, three, two};
 use text::streams::Nowhere;
 use trial_pieces::dice::{chance, roll, roll_from};
@@ -15,7 +15,7 @@ use trial_uses::{
 // The text's literal for a literal of the rows.
 fn literal_of(names: &[u32], used: u32, stranger: usize) -> usize {
     let node = (used / 2) as usize;
-    let name = number_at(names, node) as usize;
+    let name = get(names, node) as usize;
     if used == STRANGER {
         stranger
     } else {
@@ -25,9 +25,8 @@ fn literal_of(names: &[u32], used: u32, stranger: usize) -> usize {
 
 fn put_inputs(plan: Plan, names: &[u32], text: &mut [u8], out: Out) -> Out {
     let mut now = out;
-    let end = plan.inputs;
-    'inputs: for at in 0..end {
-        let name = number_at(names, plus(at, 1)) as usize;
+    for at in 0..plan.inputs {
+        let name = get(names, plus(at, 1)) as usize;
         now = put_filled(&Nowhere, text, now, b"#\n", one(name));
     }
     now
@@ -66,11 +65,9 @@ fn put_latches(
     out: Out,
 ) -> Out {
     let mut now = out;
-    let from = plus(plan.inputs, 1);
-    let end = sources_of(plan);
-    'latches: for row in from..end {
-        let name = number_at(names, row) as usize;
-        let next = literal_of(names, number_at(uses, twice(row)), stranger);
+    for row in plus(plan.inputs, 1)..sources_of(plan) {
+        let name = get(names, row) as usize;
+        let next = literal_of(names, get(uses, twice(row)), stranger);
         let wrong = plan.fault == RESET && chance(seed, 2);
         now = put_latch(seed, name, next, wrong, text, now);
     }
@@ -86,10 +83,8 @@ fn put_outputs(
     out: Out,
 ) -> Out {
     let mut now = out;
-    let from = nodes_of(plan);
-    let end = rows_of(plan);
-    'outputs: for row in from..end {
-        let shown = literal_of(names, number_at(uses, twice(row)), stranger);
+    for row in nodes_of(plan)..rows_of(plan) {
+        let shown = literal_of(names, get(uses, twice(row)), stranger);
         now = put_filled(&Nowhere, text, now, b"#\n", one(shown));
     }
     now
@@ -104,12 +99,10 @@ fn put_gates(
     out: Out,
 ) -> Out {
     let mut now = out;
-    let from = sources_of(plan);
-    let end = nodes_of(plan);
-    'gates: for row in from..end {
-        let name = number_at(names, row) as usize;
-        let first = literal_of(names, number_at(uses, twice(row)), stranger);
-        let second = literal_of(names, number_at(uses, plus(twice(row), 1)), stranger);
+    for row in sources_of(plan)..nodes_of(plan) {
+        let name = get(names, row) as usize;
+        let first = literal_of(names, get(uses, twice(row)), stranger);
+        let second = literal_of(names, get(uses, plus(twice(row), 1)), stranger);
         now = put_filled(&Nowhere, text, now, b"# # #\n", three(name, first, second));
     }
     now
@@ -249,7 +242,7 @@ pub fn any_plan(seed: &mut u64, most: usize) -> Plan {
         turned: chance(seed, 3),
         mixed: roll(seed, 3),
         order: roll(seed, 4),
-        fault: fault,
+        fault,
     }
 }
 
@@ -261,14 +254,14 @@ pub fn long_plan(seed: &mut u64, rows: usize, fault: usize) -> Plan {
     let others = plus(plus(1, outputs), plus(latches, gates));
     Plan {
         inputs: minus(rows, others),
-        latches: latches,
-        outputs: outputs,
-        gates: gates,
+        latches,
+        outputs,
+        gates,
         step: roll(seed, 8),
         turned: chance(seed, 3),
         mixed: roll(seed, 3),
         order: roll(seed, 4),
-        fault: fault,
+        fault,
     }
 }
 
@@ -291,35 +284,34 @@ fn any_byte(seed: &mut u64) -> u8 {
 
 // How many bytes there are from `at` on.
 fn left_from(at: usize, size: usize) -> usize {
-    if at < size { size - at } else { 0 }
+    size.saturating_sub(at)
 }
 
 // The bytes from `at` on move up by one.
 fn move_up(text: &mut [u8], at: usize, size: usize) {
     let count = left_from(at, size);
-    'bytes: for i in 0..count {
+    for i in 0..count {
         let to = minus(size, i);
-        text::bytes::put(text, to, text::bytes::get(text, minus(to, 1)));
+        put(text, to, get(text, minus(to, 1)));
     }
 }
 
 // The bytes after `at` move down by one.
 fn move_down(text: &mut [u8], at: usize, size: usize) {
-    'bytes: for i in at..size {
-        text::bytes::put(text, i, text::bytes::get(text, plus(i, 1)));
+    for i in at..size {
+        put(text, i, get(text, plus(i, 1)));
     }
 }
 
 fn put_in(text: &mut [u8], at: usize, size: usize, byte: u8) -> usize {
     move_up(text, at, size);
-    text::bytes::put(text, at, byte);
+    put(text, at, byte);
     plus(size, 1)
 }
 
 // One number more on the line.
 fn lengthen(seed: &mut u64, text: &mut [u8], at: usize, size: usize) -> usize {
-    let from = text::bytes::least(at, text.len());
-    let end = text::bytes::least(text::bytes::find(text, from, b'\n'), size);
+    let end = find(text, at.min(text.len()), b'\n').min(size);
     let digit = b'0' + trial_pieces::dice::roll_u8(seed, 3) % 3;
     let longer = put_in(text, end, size, digit);
     put_in(text, end, longer, b' ')
@@ -338,7 +330,7 @@ pub fn damage(seed: &mut u64, text: &mut [u8], size: usize) -> usize {
         }
         5 => lengthen(seed, text, at, size),
         _ => {
-            text::bytes::put(text, at, byte);
+            put(text, at, byte);
             size
         }
     }
