@@ -1,9 +1,10 @@
 // Netlists whose nodes stand in any order, made of those that stand in order.
 #![tactic(auto)]
 
-use reference_rows::rows::{count_kind, row_at, rows_of};
+use reference_rows::bytes::{item, put_item};
+use reference_rows::rows::{Row, count_kind, row_at, rows_of};
 use trial_pieces::dice::{any_literal, chance, roll, roll_from};
-use trial_pieces::pieces::{cells, get_word, plus, put_word};
+use trial_pieces::pieces::{cells, plus};
 use trial_tally::rooms;
 
 // A row that changes places with this one: a node after the constant, one time in `rarely`, and else the row itself.
@@ -18,11 +19,11 @@ fn partner(seed: &mut u64, nodes: usize, at: usize, rarely: usize) -> usize {
 
 // The new number of each row and 1 more.
 fn mix(seed: &mut u64, nodes: usize, rows: usize, rarely: usize, numbers: &mut [u16]) {
-    'rows: for at in 0..rows {
+    for at in 0..rows {
         let other = partner(seed, nodes, at, rarely);
         let number = (plus(at, 1) % 65536) as u16;
-        put_word(numbers, at, get_word(numbers, other));
-        put_word(numbers, other, number);
+        put_item(numbers, at, item(numbers, other));
+        put_item(numbers, other, number);
     }
 }
 
@@ -32,8 +33,16 @@ fn redraw(file: &mut [u8], seed: &mut u64, nodes: usize) {
     let row = row_at(file, at);
     let literal = any_literal(seed, nodes);
     let new = match roll(seed, 3) {
-        0 => cells(row.kind, 0, literal, row.b, row.c),
-        1 => cells(row.kind, 0, row.a, literal, row.c),
+        0 => Row {
+            a: literal,
+            reset: 0,
+            ..row
+        },
+        1 => Row {
+            b: literal,
+            reset: 0,
+            ..row
+        },
         _ => cells(5, 0, row.a, row.b, literal),
     };
     if row.kind < 3 {
@@ -43,24 +52,23 @@ fn redraw(file: &mut [u8], seed: &mut u64, nodes: usize) {
 }
 
 fn redraw_some(file: &mut [u8], seed: &mut u64, nodes: usize, count: usize) {
-    'gates: for i in 0..count {
+    for _ in 0..count {
         redraw(file, seed, nodes);
     }
 }
 
 fn nodes_in(file: &[u8]) -> usize {
     let rows = rows_of(file);
-    std::num::wrapping_sub_usize(rows, count_kind(file, rows, 6))
+    rows.wrapping_sub(count_kind(file, rows, 6))
 }
 
 // All nodes of the file change places, or a few.
 pub fn put_shuffled(file: &[u8], seed: &mut u64, mixed: &mut [u8]) {
-    let mut room = rooms::words();
-    let numbers: &mut [u16] = &mut room;
+    let mut numbers = rooms::words();
     let rows = rows_of(file);
     let rarely = if chance(seed, 4) { 16 } else { 1 };
-    mix(seed, nodes_in(file), rows, rarely, numbers);
-    reference_import::sorting::put_moved(file, rows, numbers, mixed);
+    mix(seed, nodes_in(file), rows, rarely, &mut numbers);
+    reference_import::sorting::put_moved(file, rows, &numbers, mixed);
     reference_writing::writer::close(mixed, rows);
 }
 
