@@ -7,6 +7,7 @@ use mathlib.Core.Option.{Option, none, some}
 use native.Mathlib.Omega.{arith}
 use lib.ListN.{length}
 use lib.Seq.{take_at}
+use Rattle.std.specs.Prelude.{Result, Err}
 use Rattle.memory.specs.Fields.{IsBytes}
 use Rattle.netlist.specs.Limits.{fold_clock_entries}
 use Rattle.netlist.specs.FileFormat.{file_of, blocks_for, file_left}
@@ -23,8 +24,7 @@ use Rattle.fold_refusals.specs.declared.FoldRefusal.{FoldRefusal}
 use Rattle.fold_refusals.proofs.EarlyLaws.{fold-number-positive}
 use Rattle.fold_answers.specs.FoldAnswers.{folding_refusal, numbers_in, used_in, fold_answered, numbers_of, entries_of, result_of}
 use Rattle.fold_answers.specs.FoldOutcome.{LeftFolded, CoreFolded}
-use Rattle.fold_answers.specs.declared.Folding.{Folding}
-use Rattle.fold_answers.specs.declared.Folding.TheVariants.{Refused}
+use Rattle.fold_answers.specs.declared.FoldNumbers.{FoldNumbers}
 
 -- The file of the rows at the start of a result.
 left-file : (file : List ℕ) (wish : ℕ) (G : FoldGuarantee file wish) (result : List ℕ) → LeftFolded file G.answer.phases (file_left (result_of (some G.answer) result) G.answer.after)
@@ -36,7 +36,7 @@ left-file file wish G result =
 
 module _ (file : List ℕ) (wish clocks : ℕ) (result : List ℕ) where
   -- Nothing is packed, whatever work has.
-  pub core-refused : (work work' : List ℕ) (r : FoldRefusal) → fold_refusal_in r ≡ fold_refusal file wish (length result) (length work) clocks → CoreFolded file wish clocks result result work work' (Refused r)
+  pub core-refused : (work work' : List ℕ) (r : FoldRefusal) → fold_refusal_in r ≡ fold_refusal file wish (length result) (length work) clocks → CoreFolded file wish clocks result result work work' (Err r)
   core-refused work work' r e =
       let positive = fold-number-positive r in
       let none_is : fold_answered file wish (length result) (length work) clocks ≡ none = rw (number-some (fold_refusal file wish (length result) (length work) clocks) (omega (arith, positive, same_number e))).0 refl in
@@ -53,7 +53,7 @@ module _ (file : List ℕ) (wish clocks : ℕ) (result : List ℕ) where
         few = (omega arith, omega arith);
       }
 
-  module _ (result' work work' : List ℕ) (answer : Folding) (bytes : IsBytes file) (e : folding_refusal answer ≡ fold_refusal file wish (length result) (length work) clocks) (numbers : numbers_in answer ≡ numbers_of (fold_answered file wish (length result) (length work) clocks))
+  module _ (result' work work' : List ℕ) (answer : Result FoldNumbers FoldRefusal) (bytes : IsBytes file) (e : folding_refusal answer ≡ fold_refusal file wish (length result) (length work) clocks) (numbers : numbers_in answer ≡ numbers_of (fold_answered file wish (length result) (length work) clocks))
       (written : result' ≡ result_of (fold_answered file wish (length result) (length work) clocks) result) where
     guaranteed : folding_refusal answer ≡ no_refusal → FoldGuarantee file wish
     guaranteed z = fold-guarantee file bytes wish (length result) (length work) clocks (sym e ∙ z)

@@ -1,7 +1,7 @@
 -- Fold's answers as the scope paper's numbers and places, and the fold that they are of.
 -- Interface: folding_refusal, numbers_in, used_in; fold_answered, numbers_of, entries_of, result_of.
 -- Assumes nothing.
-use Rattle.std.specs.Prelude.{ℕ, List, []}
+use Rattle.std.specs.Prelude.{ℕ, List, [], Result, Ok, Err}
 use Rattle.std.proofs.Math.Option.{Option, none, some}
 use Rattle.netlist.specs.FileFormat.{netlist_of, file_in}
 use Rattle.lasso.specs.ClockEntries.{ClockEntry}
@@ -9,23 +9,22 @@ use Rattle.abstraction.specs.Fold.{FoldAnswer, fold_netlist}
 use Rattle.questions.specs.Questions.{Refusal, no_refusal, unless_refused}
 use Rattle.fold_questions.specs.FoldQuestions.{fold_refusal}
 use Rattle.fold_refusals.specs.FoldRefusals.{fold_refusal_in}
+use Rattle.fold_refusals.specs.declared.FoldRefusal.{FoldRefusal}
 use Rattle.fold_answers.specs.declared.FoldNumbers.{FoldNumbers}
-use Rattle.fold_answers.specs.declared.Folding.{Folding}
-use Rattle.fold_answers.specs.declared.Folding.TheVariants.{Done, Refused}
 
-abbrev pub folding_refusal : Folding → Refusal
-folding_refusal (Done n) = no_refusal
-folding_refusal (Refused r) = fold_refusal_in r
+abbrev pub folding_refusal : Result FoldNumbers FoldRefusal → Refusal
+folding_refusal (Ok n) = no_refusal
+folding_refusal (Err r) = fold_refusal_in r
 
 -- The numbers that are answered, all 0 for a refusal; and how many clock entries are set.
 abbrev pub no_numbers : FoldNumbers
 no_numbers = record { stem = 0; cycle = 0; phases = 0; used = 0; before = 0; after = 0 }
 
-abbrev pub numbers_in : Folding → FoldNumbers
-numbers_in (Done n) = n
-numbers_in (Refused r) = no_numbers
+abbrev pub numbers_in : Result FoldNumbers FoldRefusal → FoldNumbers
+numbers_in (Ok n) = n
+numbers_in (Err r) = no_numbers
 
-abbrev pub used_in : Folding → ℕ
+abbrev pub used_in : Result FoldNumbers FoldRefusal → ℕ
 used_in answer = (numbers_in answer).used
 
 -- ---- of the definition

@@ -7,7 +7,7 @@ ghost use Rattle.fold_answers.specs.FoldAnswers.{used_in};
 use fold_refusals::FoldRefusal;
 
 // Stem, cycle, phase count, used generators, and the row counts before and after.
-#[derive(Clone, Copy)]
+#[derive(Clone, Copy, Debug, PartialEq, Eq)]
 pub struct FoldNumbers {
     pub stem: u32,
     pub cycle: u32,
@@ -17,18 +17,12 @@ pub struct FoldNumbers {
     pub after: u32,
 }
 
-#[derive(Clone, Copy)]
-pub enum Folding {
-    Done(FoldNumbers),
-    Refused(FoldRefusal),
-}
-
 // How many clock entries an answer sets.
-pub fn used_of(answer: Folding) -> usize
+pub fn used_of(answer: Result<FoldNumbers, FoldRefusal>) -> usize
     ensures { result ≡ used_in answer }
 {
     match answer {
-        Folding::Done(numbers) => numbers.used as usize,
-        Folding::Refused(_) => 0,
+        Ok(numbers) => numbers.used as usize,
+        Err(_) => 0,
     }
 }

@@ -8,6 +8,7 @@ use mathlib.Core.Option.{Option, none, some}
 use native.Mathlib.Omega.{arith}
 use lib.Dec.{eqb}
 use lib.ListN.{length, replicate}
+use Rattle.std.specs.Prelude.{Result, Ok, Err}
 use Rattle.memory.specs.Fields.{IsBytes}
 use Rattle.netlist.specs.Rows.{Row}
 use Rattle.netlist.specs.FileFormat.{netlist_of}
@@ -18,14 +19,11 @@ use Rattle.fold_questions.specs.FoldQuestions.{has_lasso, fold_refusal}
 use Rattle.questions.proofs.QuestionLaws.{same_number, first-before, first-behind}
 use Rattle.ternary_step.proofs.ReadyLaws.{work-ready-of}
 use Rattle.fold_refusals.specs.FoldRefusals.{fold_refusal_in, early_refusal, asked_refusal, Questioned}
-use Rattle.fold_refusals.specs.declared.asking.Asked.{Asked}
-use Rattle.fold_refusals.specs.declared.asking.Asked.TheVariants.{Passed, Stopped}
 use Rattle.fold_refusals.specs.declared.FoldRefusal.{FoldRefusal}
 use Rattle.fold_refusals.proofs.EarlyLaws.{fold-number-positive}
 use Rattle.fold_answers.specs.FoldAnswers.{folding_refusal, numbers_in, fold_answered, numbers_of, entries_of, result_of}
 use Rattle.fold_answers.specs.FoldOutcome.{CoreFolded}
-use Rattle.fold_answers.specs.declared.Folding.{Folding}
-use Rattle.fold_answers.specs.declared.Folding.TheVariants.{Refused}
+use Rattle.fold_answers.specs.declared.FoldNumbers.{FoldNumbers}
 use Rattle.fold_answers.proofs.CoreLaws.{core-refused, core-answered}
 use Rattle.fold_core.specs.FoldParts.{FoldReady, folding_of, FoldMade}
 use Rattle.fold_core.proofs.PassedLaws.{early_asked, early-memory}
@@ -70,22 +68,22 @@ numbers-same none = refl
 numbers-same (some a) = refl
 
 -- The work memory is cleared, and keeps its length.
-module _ {file : List ℕ} {wish clocks : ℕ} (result work cleared : List ℕ) (long : length cleared ≡ length work) {asked : Asked} (Q : Questioned file wish (length result) (length cleared) clocks asked) where
+module _ {file : List ℕ} {wish clocks : ℕ} (result work cleared : List ℕ) (long : length cleared ≡ length work) {asked : Result ℕ FoldRefusal} (Q : Questioned file wish (length result) (length cleared) clocks asked) where
   early-is : asked_refusal asked ≡ early_refusal file wish (length result) (length work) clocks
   early-is = Q.refusal ∙ ap (λ (k : ℕ). early_refusal file wish (length result) k clocks) long
 
-  pub core-stopped : {r : FoldRefusal} → asked ≡ Stopped r → CoreFolded file wish clocks result result work cleared (Refused r)
+  pub core-stopped : {r : FoldRefusal} → asked ≡ Err r → CoreFolded file wish clocks result result work cleared (Err r)
   core-stopped {r} e =
       let q : fold_refusal_in r ≡ early_refusal file wish (length result) (length work) clocks = sym (ap asked_refusal e) ∙ early-is in
       let positive = fold-number-positive r in
       core-refused file wish clocks result work cleared r (q ∙ sym (early-refuses file wish (length result) (length work) clocks (omega (arith, same_number q))))
 
-  pub fold-ready : {n : ℕ} → asked ≡ Passed n → cleared ≡ replicate (length work) 0 → FoldReady file n wish result cleared
+  pub fold-ready : {n : ℕ} → asked ≡ Ok n → cleared ≡ replicate (length work) 0 → FoldReady file n wish result cleared
   fold-ready {n} e z =
       let p : early_refusal file wish (length result) (length cleared) clocks ≡ no_refusal = sym Q.refusal ∙ ap asked_refusal e in
       record { clocks = clocks; passed = p; rows = Q.rows n e; work-ready = work-ready-of cleared (length work) z (early-memory file wish (length result) (length cleared) clocks p).work-long }
 
-  module _ (bytes : IsBytes file) {n : ℕ} (passed : asked ≡ Passed n) {result' work' : List ℕ} {answer : Folding} (M : FoldMade file wish result result' work' answer) where
+  module _ (bytes : IsBytes file) {n : ℕ} (passed : asked ≡ Ok n) {result' work' : List ℕ} {answer : Result FoldNumbers FoldRefusal} (M : FoldMade file wish result result' work' answer) where
     early-none : early_refusal file wish (length result) (length work) clocks ≡ no_refusal
     early-none = sym early-is ∙ ap asked_refusal passed
 

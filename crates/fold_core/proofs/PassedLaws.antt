@@ -3,9 +3,10 @@
 use Prim.Native.Nat.{ℕ, ◌≤◌}
 use mathlib.Core.Path.{◌≡◌, refl, sym, ap, ◌∙◌, subst}
 use mathlib.Core.List.{List, ◌∷◌}
-use mathlib.Core.Option.{Option, none, some}
+use mathlib.Core.Option.{Option as Maybe, none, some}
 use native.Mathlib.Omega.{arith}
 use lib.ListN.{length}
+use Rattle.std.specs.Prelude.{Option, Some, None, Ok, Err}
 use borrow.Author.Tests.{leb-true}
 use Rattle.memory.proofs.ListLaws.{tabulate-cong}
 use Rattle.netlist.specs.Limits.{most_phases, most_folded_rows, fold_clock_entries}
@@ -27,8 +28,6 @@ use Rattle.fold_questions.proofs.FoldAccepted.{fold_memory_right-iff, OriginalRi
 use Rattle.questions.proofs.AcceptedFiles.{FileRight, file-right}
 use Rattle.blockfile.specs.Ready.{Ready}
 use Rattle.lasso_finder.specs.Outcome.{phases_of, analysed_clocks, analysis_of, Analysed}
-use Rattle.lasso_finder.specs.declared.Analysis.{Analysis}
-use Rattle.lasso_finder.specs.declared.Analysis.TheVariants as analysis
 use Rattle.lasso_finder.specs.declared.Clocks.{Clocks}
 use Rattle.ternary_step.proofs.ReadyLaws.{analysis-ready}
 use Rattle.clock_words.proofs.EntryLaws.{entry_kept}
@@ -40,7 +39,6 @@ use Rattle.fold_core.specs.FoldParts.{FoldReady, folding_of, FoldMade}
 use Rattle.fold_core.specs.FoldStages.{EntriesKept, FoldWritten, NumbersFit, numbers_from}
 use Rattle.fold_answers.specs.declared.FoldNumbers.{FoldNumbers}
 use Rattle.fold_refusals.specs.declared.FoldRefusal.TheVariants.{NoLasso}
-use Rattle.fold_answers.specs.declared.Folding.TheVariants.{Done, Refused}
 
 -- ---- the entries that stay
 
@@ -74,11 +72,11 @@ module _ (file : List ℕ) (wish result work clocks : ℕ) where
 -- ---- the stages
 
 -- What the analysis answers says whether there is a lasso, and which.
-found_some : (rows : List Row) (wish : ℕ) (o : Option Lasso) (clocks : Clocks) → analysis.Found clocks ≡ analysis_of rows wish o → (z : Lasso) × (o ≡ some z) × (clocks ≡ analysed_clocks rows wish z)
+found_some : (rows : List Row) (wish : ℕ) (o : Maybe Lasso) (clocks : Clocks) → Some clocks ≡ analysis_of rows wish o → (z : Lasso) × (o ≡ some z) × (clocks ≡ analysed_clocks rows wish z)
 found_some rows wish none clocks e = absurd (let q : ◌≡◌ {A = ℕ} 0 1 = cc in omega arith)
 found_some rows wish (some z) clocks e = (z, refl, cc)
 
-never-none : (rows : List Row) (wish : ℕ) (o : Option Lasso) → analysis.NoLasso ≡ analysis_of rows wish o → o ≡ none
+never-none : (rows : List Row) (wish : ℕ) (o : Maybe Lasso) → None ≡ analysis_of rows wish o → o ≡ none
 never-none rows wish none e = refl
 never-none rows wish (some z) e = absurd (let q : ◌≡◌ {A = ℕ} 0 1 = cc in omega arith)
 
@@ -95,16 +93,16 @@ module _ {file : List ℕ} {n wish : ℕ} {result work : List ℕ} (R : FoldRead
   pub wish-small : wish ≤ most_phases
   wish-small = early-wish file wish (length result) (length work) R.clocks R.passed
 
-  module _ {work₁ : List ℕ} {r : Analysis} (A : Analysed rows wish work work₁ r) where
+  module _ {work₁ : List ℕ} {r : Option Clocks} (A : Analysed rows wish work work₁ r) where
     -- No lasso, so no fold.
-    pub made-never : r ≡ analysis.NoLasso → FoldMade file wish result result work₁ (Refused NoLasso)
+    pub made-never : r ≡ None → FoldMade file wish result result work₁ (Err NoLasso)
     unfolding fold_netlist
     made-never e =
         let q = never-none rows wish (find_lasso rows) (sym e ∙ A.answer) in
         let f : fold_netlist rows wish ≡ none = rw (q, fold_netlist) in
-        record { answer-is = sym (ap folding_of f); written = sym (ap (λ (o : Option FoldAnswer). result_of o result) f); entries = sym (ap entries_of f); few = omega arith }
+        record { answer-is = sym (ap folding_of f); written = sym (ap (λ (o : Maybe FoldAnswer). result_of o result) f); entries = sym (ap entries_of f); few = omega arith }
 
-    module _ {clocks : Clocks} (found : r ≡ analysis.Found clocks) where
+    module _ {clocks : Clocks} (found : r ≡ Some clocks) where
       -- The lasso that was found, and the clocks by it.
       lasso-of : (z : Lasso) × (find_lasso rows ≡ some z) × (clocks ≡ analysed_clocks rows wish z)
       lasso-of = found_some rows wish (find_lasso rows) clocks (sym found ∙ A.answer)
@@ -174,14 +172,14 @@ module _ {file : List ℕ} {n wish : ℕ} {result work : List ℕ} (R : FoldRead
               same : {c c' : Clocks} {b b' a a' : ℕ} → c ≡ c' → b ≡ b' → a ≡ a' → numbers_from c b a ≡ numbers_from c' b' a'
               same p q s = cc (p, q, s)
 
-          pub made-fold : FoldMade file wish result result₂ work₂ (Done m)
+          pub made-fold : FoldMade file wish result result₂ work₂ (Ok m)
           unfolding fold_from_lasso
           made-fold =
               let f = fold-answers rows wish z lasso-of.1 in
               let u : m.used ≡ clocks.used = ap (λ (x : FoldNumbers). x.used) numbers in
               record {
-                answer-is = ap Done numbers-are ∙ sym (ap folding_of f);
-                written = written.written (clock_value rows ps N) (A.known z lasso-of.1) ∙ sym (ap (λ (o : Option FoldAnswer). result_of o result) f);
+                answer-is = ap Ok numbers-are ∙ sym (ap folding_of f);
+                written = written.written (clock_value rows ps N) (A.known z lasso-of.1) ∙ sym (ap (λ (o : Maybe FoldAnswer). result_of o result) f);
                 entries = ap (entries_in work₂) (u ∙ used-is) ∙ entries-same work₁ work₂ (used_count ps N) (omega (arith, used-is, used-few)) written.kept ∙ A.entries z lasso-of.1 ∙ sym (ap entries_of f);
                 few = omega (arith, u, used-few);
               }

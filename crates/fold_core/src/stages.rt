@@ -8,9 +8,9 @@ ghost use Rattle.unrolling.specs.UnrollMap.{Room};
 ghost use Rattle.fold_core.specs.FoldParts.{FoldReady, FoldMade};
 ghost use Rattle.fold_core.specs.FoldStages.{FoldWritten, NumbersFit, numbers_from};
 
-use fold_answers::{FoldNumbers, Folding};
+use fold_answers::FoldNumbers;
 use fold_refusals::FoldRefusal;
-use lasso_finder::{Analysis, Clocks};
+use lasso_finder::Clocks;
 
 // The folded netlist's file in `result`; answers its row count.
 fn write_fold(file: &[u8], rows: usize, phases: usize, res: &mut [u8], work: &mut [u8]) -> usize
@@ -29,19 +29,13 @@ fn numbers(clocks: Clocks, rows: usize, kept: usize) -> FoldNumbers
     requires { NumbersFit clocks rows kept }
     ensures { result ≡ numbers_from clocks rows kept }
 {
-    let stem = clocks.stem as u32;
-    let cycle = clocks.cycle as u32;
-    let phases = clocks.phases as u32;
-    let used = clocks.used as u32;
-    let before = rows as u32;
-    let after = kept as u32;
     FoldNumbers {
-        stem: stem,
-        cycle: cycle,
-        phases: phases,
-        used: used,
-        before: before,
-        after: after,
+        stem: clocks.stem as u32,
+        cycle: clocks.cycle as u32,
+        phases: clocks.phases as u32,
+        used: clocks.used as u32,
+        before: rows as u32,
+        after: kept as u32,
     }
 }
 
@@ -52,16 +46,13 @@ pub fn fold_passed(
     wish: usize,
     res: &mut [u8],
     work: &mut [u8],
-) -> Folding
+) -> Result<FoldNumbers, FoldRefusal>
     requires { FoldReady file.now rows wish res.old work.old }
     ensures { FoldMade file.now wish res.old res.new work.new result }
 {
-    let analysis = lasso_finder::analyse(file, rows, wish, work);
-    match analysis {
-        Analysis::NoLasso => Folding::Refused(FoldRefusal::NoLasso),
-        Analysis::Found(clocks) => {
-            let after = write_fold(file, rows, clocks.phases, res, work);
-            Folding::Done(numbers(clocks, rows, after))
-        }
-    }
+    let Some(clocks) = lasso_finder::analyse(file, rows, wish, work) else {
+        return Err(FoldRefusal::NoLasso);
+    };
+    let after = write_fold(file, rows, clocks.phases, res, work);
+    Ok(numbers(clocks, rows, after))
 }

@@ -2,16 +2,15 @@
 -- Assumes nothing.
 use native.Mathlib.Omega.{arith}
 use borrow.Author.Rules.{rules}
+use Rattle.accept.proofs.RefusalLaws.{handed-on}
 use Rattle.fold_core.proofs.OutcomeLaws.{core-stopped, fold-ready, core-passed}
 use Rattle.fold_core.proofs.fold_core.Goals as goal
 
+pub returns-in_err-rows : goal.returns-in_err-rows
+returns-in_err-rows c = rw (handed-on c.from_residual.result c.from_residual.ensures.1) (search (core-stopped, c.in_err-rows.was))
+
 pub fold_passed-requires : goal.fold_passed-requires
-fold_passed-requires c = search fold-ready
+fold_passed-requires c = search (fold-ready, c.in_ok-rows.was)
 
-pub returns-in-Stopped : goal.returns-in-Stopped
-returns-in-Stopped c = search core-stopped
-
-pub returns-in-Passed : goal.returns-in-Passed
-returns-in-Passed c =
-    let s = c in
-    core-passed s.args.res.now s.args.work.now c.clear.new.s (search rules) c.ask-asked.ensures (λ x. omega (arith, c.shared_slice_known-1.given x)) c.in-Passed.is c.fold_passed.ensures
+pub returns : goal.returns
+returns c = core-passed c.args.res.now c.args.work.now c.clear.new.s (search rules) c.ask.ensures (λ x. omega (arith, c.type_inv.file x)) c.in_ok-rows.was c.fold_passed.ensures
