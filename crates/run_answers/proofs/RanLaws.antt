@@ -17,7 +17,7 @@ use Rattle.run_answers.specs.RunAnswers.{run_refusal_in}
 use Rattle.run_answers.specs.Ran.{ran_bytes, Ran}
 use Rattle.run_answers.specs.declared.RunRefusal.{RunRefusal}
 use Rattle.run_answers.specs.declared.RunRefusal.TheVariants.{File, Steps, Lists, Value, Memory}
-use Rattle.run_answers.specs.declared.RunAnswer.TheVariants.{Done, Refused}
+use Rattle.std.specs.Prelude.{Ok, Err}
 
 -- A refusal has a number.
 pub run-positive : (r : RunRefusal) → 0 < (run_refusal_in r).number
@@ -32,8 +32,8 @@ pub ran-rest : (rows : List Row) (T : ℕ) (choices inputs old : List ℕ) → d
 ran-rest rows T choices inputs old = drop_at (run_bytes rows choices inputs T) (drop (T * count_if is_output rows) old) (length (run_bytes rows choices inputs T)) refl
 
 module _ (file : List ℕ) (T : ℕ) (choices inputs result work work' : List ℕ) (clear : work' ≡ replicate (length work) 0) where
-  pub ran-refused : (r : RunRefusal) → run_refusal_in r ≡ run_refusal file T choices inputs (length result) (length work) → Ran file T choices inputs result result work work' (Refused r)
+  pub ran-refused : (r : RunRefusal) → run_refusal_in r ≡ run_refusal file T choices inputs (length result) (length work) → Ran file T choices inputs result result work work' (Err r)
   ran-refused r e = record { refusal = e; written = rw (number-some (run_refusal_in r) (run-positive r)).0 refl; cleared = clear }
 
-  pub ran-done : (result' : List ℕ) → no_refusal ≡ run_refusal file T choices inputs (length result) (length work) → result' ≡ ran_bytes (netlist_of file) T choices inputs result → Ran file T choices inputs result result' work work' Done
+  pub ran-done : (result' : List ℕ) → no_refusal ≡ run_refusal file T choices inputs (length result) (length work) → result' ≡ ran_bytes (netlist_of file) T choices inputs result → Ran file T choices inputs result result' work work' (Ok tt)
   ran-done result' e w = record { refusal = e; written = w; cleared = clear }

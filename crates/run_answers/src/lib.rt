@@ -1,13 +1,14 @@
-// What Run answers, and what it promises (specs/Ran.antt).
+// What Run is refused for, and what it promises (specs/Ran.antt).
 #![tactic(auto)]
 
 ghost use Rattle.std.specs.Prelude.{◌≡◌};
-ghost use Rattle.run_answers.specs.RunAnswers.{run_refusal_in};
+ghost use Rattle.run_answers.specs.declared.RunRefusal.TheVariants.{File};
 
 use accept::FileRefusal;
+use questions::Numbered;
 
 // What a run is refused for; of a file, with its place.
-#[derive(Clone, Copy)]
+#[derive(Clone, Copy, Debug, PartialEq, Eq)]
 pub enum RunRefusal {
     File(FileRefusal),
     Steps,
@@ -16,33 +17,36 @@ pub enum RunRefusal {
     Memory,
 }
 
-// The paper's number of a refusal, and its place.
-pub fn number_of(refusal: RunRefusal) -> u32
-    ensures { result ≡ (run_refusal_in refusal).number }
-{
-    match refusal {
-        RunRefusal::File(file) => accept::number_of(file),
-        RunRefusal::Steps => 17,
-        RunRefusal::Lists => 18,
-        RunRefusal::Value => 19,
-        RunRefusal::Memory => 20,
+impl Numbered for RunRefusal {
+    ghost use Rattle.run_answers.specs.RunAnswers.{run_refusal_in};
+
+    ghost refusal = { run_refusal_in };
+
+    fn number(self) -> u32 {
+        match self {
+            RunRefusal::File(file) => file.number(),
+            RunRefusal::Steps => 17,
+            RunRefusal::Lists => 18,
+            RunRefusal::Value => 19,
+            RunRefusal::Memory => 20,
+        }
+    }
+
+    fn place(self) -> u32 {
+        match self {
+            RunRefusal::File(file) => file.place(),
+            RunRefusal::Steps => 0,
+            RunRefusal::Lists => 0,
+            RunRefusal::Value => 0,
+            RunRefusal::Memory => 0,
+        }
     }
 }
 
-pub fn place_of(refusal: RunRefusal) -> u32
-    ensures { result ≡ (run_refusal_in refusal).place }
-{
-    match refusal {
-        RunRefusal::File(file) => accept::place_of(file),
-        RunRefusal::Steps => 0,
-        RunRefusal::Lists => 0,
-        RunRefusal::Value => 0,
-        RunRefusal::Memory => 0,
-    }
-}
+impl From<FileRefusal> for RunRefusal {
+    ghost from_gives = { λ file refusal. refusal ≡ File file };
 
-#[derive(Clone, Copy)]
-pub enum RunAnswer {
-    Done,
-    Refused(RunRefusal),
+    fn from(file: FileRefusal) -> RunRefusal {
+        RunRefusal::File(file)
+    }
 }
