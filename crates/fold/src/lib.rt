@@ -4,7 +4,7 @@
 ghost use Rattle.fold_answers.specs.FoldedOutcome.{Folded};
 
 use clock_list::Clock;
-use fold_answers::Folding;
+use fold_answers::{FoldNumbers, FoldRefusal};
 
 // The fold, its clock entries in the list and its file in the result; work is cleared.
 pub fn fold(
@@ -13,7 +13,7 @@ pub fn fold(
     res: &mut [u8],
     work: &mut [u8],
     clocks: &mut [Clock],
-) -> Folding
+) -> Result<FoldNumbers, FoldRefusal>
     ensures { Folded file.now wish res.old res.new work.old work.new clocks.old clocks.new result }
 {
     let count = clocks.len();
