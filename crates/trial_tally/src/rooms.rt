@@ -50,7 +50,7 @@ pub fn short_filled() -> [u8; 65600]
     [FILL; 65600]
 }
 
-// ---- words and numbers
+// ---- words
 
 // One for each label, or for each row of a file.
 pub fn words() -> [u16; 65536]
@@ -59,43 +59,19 @@ pub fn words() -> [u16; 65536]
     [0; 65536]
 }
 
-// Eight numbers for each of 49,664 lines, one, and two.
-pub fn long_table() -> [u32; 397312]
-    ensures { 397312 ≡ length result }
-{
-    [0; 397312]
-}
+// ---- of a text of so many lines: eight numbers for each, one, and two
 
-pub fn long_list() -> [u32; 49664]
-    ensures { 49664 ≡ length result }
-{
-    [0; 49664]
-}
+pub const LONG_TABLE: usize = 397312;
 
-pub fn long_pairs() -> [u32; 99328]
-    ensures { 99328 ≡ length result }
-{
-    [0; 99328]
-}
+pub const LONG_LIST: usize = 49664;
 
-// The same for 8,192 lines.
-pub fn short_table() -> [u32; 65536]
-    ensures { 65536 ≡ length result }
-{
-    [0; 65536]
-}
+pub const LONG_PAIRS: usize = 99328;
 
-pub fn short_list() -> [u32; 8192]
-    ensures { 8192 ≡ length result }
-{
-    [0; 8192]
-}
+pub const SHORT_TABLE: usize = 65536;
 
-pub fn short_pairs() -> [u32; 16384]
-    ensures { 16384 ≡ length result }
-{
-    [0; 16384]
-}
+pub const SHORT_LIST: usize = 8192;
+
+pub const SHORT_PAIRS: usize = 16384;
 
 // Whether the short ones are enough for a text: a line has two bytes at least.
 pub fn is_short(text: &[u8]) -> bool {

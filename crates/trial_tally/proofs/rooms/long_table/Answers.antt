@@ -1,6 +1,0 @@
-use Rattle.std.proofs.Common.{ℕ, sym}
-use Rattle.std.proofs.Math.ListN.{length-replicate}
-use Rattle.trial_tally.proofs.rooms.long_table.Goals as goal
-
-pub returns : goal.returns
-returns c = sym (length-replicate {A = ℕ} 397312 0)
