@@ -5,8 +5,7 @@ use crate::trying::cells;
 use reference_rows::rows::{Row, put_row};
 use scripted_texts::script::{Lent, minus, plus};
 use scripted_texts::tell::{Seen, Tally};
-use text::bytes::first;
-use text::numbers::number_at;
+use text::bytes::{first, get};
 use text::out::{Out, one, put_filled, three, two};
 use text::streams::{Nowhere, Streams};
 
@@ -113,8 +112,7 @@ fn put_line(each: Each, text: &mut [u8], out: Out, line: usize) -> Out {
 
 fn put_lines(each: Each, text: &mut [u8], out: Out) -> Out {
     let mut now = out;
-    let end = lines_of(each);
-    'lines: for line in 0..end {
+    for line in 0..lines_of(each) {
         now = put_line(each, text, now, line);
     }
     now
@@ -132,8 +130,7 @@ fn put_text(each: Each, text: &mut [u8]) -> usize {
         0,
     ];
     let opened = put_filled(&Nowhere, text, text::out::to(1), b"aag # # # # #\n", header);
-    let closed = put_lines(each, text, opened);
-    closed.waiting
+    put_lines(each, text, opened).waiting
 }
 
 // ---- what is expected
@@ -197,7 +194,7 @@ fn row_of(each: Each, number: usize) -> Row {
 
 // The file of so many rows.
 fn put_rows(each: Each, rows: usize, file: &mut [u8]) {
-    'rows: for number in 1..rows {
+    for number in 1..rows {
         put_row(file, place_of(each, number), row_of(each, number));
     }
     reference_writing::writer::close(file, rows);
@@ -205,11 +202,10 @@ fn put_rows(each: Each, rows: usize, file: &mut [u8]) {
 
 // The result that is expected: the file and then zeros to the end of what is lent, or as it was.
 fn put_expected(each: Each, expected: Seen, lent: Lent, res: &mut [u8]) {
-    if expected.0 != 0 {
-        return;
+    if expected.0 == 0 {
+        crate::trying::zero(res, lent.result);
+        put_rows(each, expected.2 as usize, res);
     }
-    crate::trying::zero(res, lent.result);
-    put_rows(each, expected.2 as usize, res);
 }
 
 pub fn try_each(
@@ -220,16 +216,11 @@ pub fn try_each(
     lent: Lent,
     tally: Tally,
 ) -> Tally {
-    let mut room = crate::trying::result_room();
-    let result: &mut [u8] = &mut room;
+    let mut result = crate::trying::result_room();
     let each = each_of(numbers);
     let size = put_text(each, text);
-    let expected = Seen(
-        number_at(numbers, 4),
-        number_at(numbers, 5),
-        number_at(numbers, 6),
-    );
-    put_expected(each, expected, lent, result);
-    let tried = crate::trying::import_lent(first(text, size), lent, result);
+    let expected = Seen(get(numbers, 4), get(numbers, 5), get(numbers, 6));
+    put_expected(each, expected, lent, &mut result);
+    let tried = crate::trying::import_lent(first(text, size), lent, &result);
     scripted_texts::tell::judge(rt, line, b"", tried.seen, expected, tried.left, tally)
 }

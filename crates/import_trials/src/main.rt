@@ -28,31 +28,30 @@ fn obey(
     lent: Lent,
     tally: Tally,
 ) -> Tally {
-    let mut room = numbers_room();
-    let numbers: &mut [u32] = &mut room;
+    let mut numbers = numbers_room();
     match letter {
         b'#' => scripted_texts::tell::title(rt, line, tally),
         b'd' => scripted_texts::tell::total(rt, tally),
         b't' => {
-            let count = scripted_texts::script::read_expected(line, numbers);
+            let count = scripted_texts::script::read_expected(line, &mut numbers);
             let size = scripted_texts::script::put_text(line, text);
             trying::try_text(
                 rt,
                 line,
                 text::bytes::first(text, size),
-                numbers,
+                &numbers,
                 count,
                 lent,
                 tally,
             )
         }
         b'm' => {
-            scripted_texts::script::read_numbers(line, 0, line.len(), numbers);
-            many::try_many(rt, line, text, numbers, lent, tally)
+            scripted_texts::script::read_numbers(line, &mut numbers);
+            many::try_many(rt, line, text, &numbers, lent, tally)
         }
         b'e' => {
-            scripted_texts::script::read_numbers(line, 0, line.len(), numbers);
-            each::try_each(rt, line, text, numbers, lent, tally)
+            scripted_texts::script::read_numbers(line, &mut numbers);
+            each::try_each(rt, line, text, &numbers, lent, tally)
         }
         _ => tally,
     }
@@ -60,33 +59,23 @@ fn obey(
 
 // How much is lent from this line on.
 fn lent_after(line: &[u8], letter: u8, lent: Lent) -> Lent {
-    let mut room = numbers_room();
-    let numbers: &mut [u32] = &mut room;
+    let mut numbers = numbers_room();
     match letter {
         b'l' => {
-            scripted_texts::script::read_numbers(line, 0, line.len(), numbers);
-            scripted_texts::script::lent_of(numbers)
+            scripted_texts::script::read_numbers(line, &mut numbers);
+            scripted_texts::script::lent_of(&numbers)
         }
         _ => lent,
     }
 }
 
-// No script has more lines than turns.
 fn obey_script(rt: &impl Streams, input: &[u8], text: &mut [u8]) {
     let mut tally = scripted_texts::tell::no_tally();
     let mut lent = scripted_texts::script::enough();
-    let mut start = 0;
-    let turns: usize = 65536;
-    'lines: for turn in 0..turns {
-        if input.len() <= start {
-            return;
-        }
-        let line = scripted_texts::script::line_at(input, start);
+    for line in input.split(|&byte| byte == b'\n') {
         let letter = text::bytes::get(line, 0);
         lent = lent_after(line, letter, lent);
         tally = obey(rt, line, letter, text, lent, tally);
-        let size = std::num::wrapping_add_usize(line.len(), 1);
-        start = std::num::wrapping_add_usize(start, size);
     }
 }
 

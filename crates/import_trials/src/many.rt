@@ -3,8 +3,7 @@
 use reference_rows::rows::put_row;
 use scripted_texts::script::Lent;
 use scripted_texts::tell::{Seen, Tally};
-use text::bytes::first;
-use text::numbers::number_at;
+use text::bytes::{first, get};
 use text::out::{Out, one, put_filled, three};
 use text::streams::{Nowhere, Streams};
 
@@ -19,7 +18,7 @@ struct Many {
 }
 
 pub fn size_at(numbers: &[u32], at: usize) -> usize {
-    number_at(numbers, at) as usize
+    get(numbers, at) as usize
 }
 
 fn many_of(numbers: &[u32]) -> Many {
@@ -35,11 +34,10 @@ fn many_of(numbers: &[u32]) -> Many {
 
 // The literal after so many others.
 fn literal_of(many: Many, before: usize) -> usize {
-    let number = std::num::wrapping_add_usize(before, 1);
+    let number = before.wrapping_add(1);
     let place = number % 1000000;
     let literal = if many.step == 2 { 2 * place } else { 6 * place };
-    let closes = number == many.inputs;
-    if closes && many.last != 0 {
+    if number == many.inputs && many.last != 0 {
         many.last
     } else {
         literal
@@ -50,8 +48,7 @@ fn literal_of(many: Many, before: usize) -> usize {
 
 fn put_inputs(many: Many, text: &mut [u8], out: Out) -> Out {
     let mut now = out;
-    let end = many.inputs;
-    'inputs: for at in 0..end {
+    for at in 0..many.inputs {
         now = put_filled(&Nowhere, text, now, b"#\n", one(literal_of(many, at)));
     }
     now
@@ -80,7 +77,7 @@ fn put_text(many: Many, text: &mut [u8]) -> usize {
     let named = put_inputs(many, text, opened);
     let shown = put_filled(&Nowhere, text, named, b"#\n", one(many.output));
     let closed = put_gate(many, text, shown);
-    std::num::wrapping_sub_usize(closed.waiting, many.cut)
+    closed.waiting.wrapping_sub(many.cut)
 }
 
 // ---- what is expected
@@ -90,10 +87,9 @@ pub fn short(value: usize) -> u16 {
 }
 
 fn put_rows(many: Many, file: &mut [u8]) {
-    let end = many.inputs;
-    'inputs: for at in 0..end {
+    for at in 0..many.inputs {
         let row = crate::trying::cells(1, short(at), 0);
-        put_row(file, std::num::wrapping_add_usize(at, 1), row);
+        put_row(file, at.wrapping_add(1), row);
     }
 }
 
@@ -109,7 +105,7 @@ fn shown_by(many: Many) -> u16 {
 
 // The file of so many rows, where no gate is.
 fn put_file(many: Many, rows: usize, file: &mut [u8]) {
-    let last = std::num::wrapping_sub_usize(rows, 1);
+    let last = rows.wrapping_sub(1);
     put_rows(many, file);
     put_row(file, last, crate::trying::cells(6, shown_by(many), 0));
     reference_writing::writer::close(file, rows);
@@ -117,11 +113,10 @@ fn put_file(many: Many, rows: usize, file: &mut [u8]) {
 
 // The result that is expected: the file and then zeros to the end of what is lent, or as it was.
 fn put_expected(many: Many, expected: Seen, lent: Lent, res: &mut [u8]) {
-    if expected.0 != 0 {
-        return;
+    if expected.0 == 0 {
+        crate::trying::zero(res, lent.result);
+        put_file(many, expected.2 as usize, res);
     }
-    crate::trying::zero(res, lent.result);
-    put_file(many, expected.2 as usize, res);
 }
 
 pub fn try_many(
@@ -132,16 +127,11 @@ pub fn try_many(
     lent: Lent,
     tally: Tally,
 ) -> Tally {
-    let mut room = crate::trying::result_room();
-    let result: &mut [u8] = &mut room;
+    let mut result = crate::trying::result_room();
     let many = many_of(numbers);
     let size = put_text(many, text);
-    let expected = Seen(
-        number_at(numbers, 6),
-        number_at(numbers, 7),
-        number_at(numbers, 8),
-    );
-    put_expected(many, expected, lent, result);
-    let tried = crate::trying::import_lent(first(text, size), lent, result);
+    let expected = Seen(get(numbers, 6), get(numbers, 7), get(numbers, 8));
+    put_expected(many, expected, lent, &mut result);
+    let tried = crate::trying::import_lent(first(text, size), lent, &result);
     scripted_texts::tell::judge(rt, line, b"", tried.seen, expected, tried.left, tally)
 }

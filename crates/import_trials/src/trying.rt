@@ -1,12 +1,13 @@
 // A text imported by the product, and if it is given as it stands by the reference too; answer, result and work are compared with what is expected.
 ghost use Rattle.std.specs.Prelude.{◌≡◌, length};
 
-use import_answers::Importing;
+use import_answers::ImportRefusal;
+use questions::Numbered;
+use reference_questions::Refusal;
 use reference_rows::rows::{Row, put_row};
 use scripted_texts::script::Lent;
 use scripted_texts::tell::{Seen, Tally};
-use text::bytes::{least, put, same};
-use text::numbers::number_at;
+use text::bytes::get;
 use text::streams::Streams;
 
 // What result and work hold before.
@@ -18,13 +19,17 @@ const RESULT_ROOM: usize = 262656;
 
 const WORK_ROOM: usize = 197120;
 
-pub fn of_import(answer: Importing) -> Seen {
+fn seen_of(answer: Result<u32, ImportRefusal>) -> Seen {
     match answer {
-        Importing::Done { rows } => Seen(0, 0, rows),
-        Importing::Refused(refusal) => {
-            let number = import_answers::number_of(refusal);
-            Seen(number, import_answers::place_of(refusal), 0)
-        }
+        Ok(rows) => Seen(0, 0, rows),
+        Err(refusal) => Seen(refusal.number(), refusal.place(), 0),
+    }
+}
+
+fn seen_again(answer: Result<u32, Refusal>) -> Seen {
+    match answer {
+        Ok(rows) => Seen(0, 0, rows),
+        Err(refusal) => Seen(refusal.number, refusal.place, 0),
     }
 }
 
@@ -46,32 +51,31 @@ fn work_room() -> [u8; 197120]
 
 pub fn cells(kind: u8, a: u16, b: u16) -> Row {
     Row {
-        kind: kind,
+        kind,
         reset: 0,
-        a: a,
-        b: b,
+        a,
+        b,
         c: 0,
     }
 }
 
 pub fn zero(bytes: &mut [u8], end: usize) {
-    'bytes: for at in 0..end {
-        put(bytes, at, 0);
-    }
+    let all = end.min(bytes.len());
+    bytes[..all].fill(0);
 }
 
 fn number_as_u8(numbers: &[u32], at: usize) -> u8 {
-    (number_at(numbers, at) % 256) as u8
+    (get(numbers, at) % 256) as u8
 }
 
 fn number_as_u16(numbers: &[u32], at: usize) -> u16 {
-    (number_at(numbers, at) % 65536) as u16
+    (get(numbers, at) % 65536) as u16
 }
 
 // A row for each five numbers, after row 0.
 fn put_listed(numbers: &[u32], rows: usize, file: &mut [u8]) {
-    'rows: for at in 1..rows {
-        let from = 5 * (std::num::wrapping_sub_usize(at, 1) % 64);
+    for at in 1..rows {
+        let from = 5 * ((at - 1) % 64);
         let row = Row {
             kind: number_as_u8(numbers, from),
             reset: number_as_u8(numbers, from + 1),
@@ -87,7 +91,7 @@ fn put_listed(numbers: &[u32], rows: usize, file: &mut [u8]) {
 fn expected_of(numbers: &[u32], count: usize) -> Seen {
     let rows = (count % 64) as u32 / 5 + 1;
     if count == 2 {
-        Seen(number_at(numbers, 0), number_at(numbers, 1), 0)
+        Seen(get(numbers, 0), get(numbers, 1), 0)
     } else {
         Seen(0, 0, rows)
     }
@@ -95,21 +99,19 @@ fn expected_of(numbers: &[u32], count: usize) -> Seen {
 
 // The result that is expected: the rows' file and then zeros to the end of what is lent, or as it was.
 fn put_expected(numbers: &[u32], expected: Seen, lent: Lent, res: &mut [u8]) {
-    if expected.0 != 0 {
-        return;
+    if expected.0 == 0 {
+        let rows = expected.2 as usize;
+        zero(res, lent.result);
+        put_listed(numbers, rows, res);
+        reference_writing::writer::close(res, rows);
     }
-    let rows = expected.2 as usize;
-    zero(res, lent.result);
-    put_listed(numbers, rows, res);
-    reference_writing::writer::close(res, rows);
 }
 
 // Whether work is zero as far as it was lent, and no further.
 fn work_right(work: &[u8], lent: usize) -> bool {
-    let mut room = work_room();
-    let expected: &mut [u8] = &mut room;
-    zero(expected, lent);
-    same(work, expected)
+    let mut expected = work_room();
+    zero(&mut expected, lent);
+    work == expected.as_slice()
 }
 
 // ---- both
@@ -122,42 +124,34 @@ pub struct Tried {
 }
 
 pub fn import_lent(text: &[u8], lent: Lent, expected: &[u8]) -> Tried {
-    let mut results = result_room();
-    let mut works = work_room();
-    let result: &mut [u8] = &mut results;
-    let work: &mut [u8] = &mut works;
-    let result_end = least(lent.result, result.len());
-    let work_end = least(lent.work, work.len());
-    let answer = import::import(text, &mut result[0..result_end], &mut work[0..work_end]);
-    let cleared = work_right(work, lent.work);
-    let left = cleared && same(result, expected);
+    let mut result = result_room();
+    let mut work = work_room();
+    let result_end = lent.result.min(result.len());
+    let work_end = lent.work.min(work.len());
+    let answer = import::import(text, &mut result[..result_end], &mut work[..work_end]);
     Tried {
-        seen: of_import(answer),
-        left: left,
+        seen: seen_of(answer),
+        left: work_right(&work, lent.work) && result.as_slice() == expected,
     }
 }
 
 fn import_again(text: &[u8], lent: Lent, expected: &[u8]) -> Tried {
-    let mut results = result_room();
-    let mut works = work_room();
+    let mut result = result_room();
+    let mut work = work_room();
     let mut tables = [0u32; 256];
     let mut lists = [0u32; 32];
-    let result: &mut [u8] = &mut results;
-    let work: &mut [u8] = &mut works;
-    let result_end = least(lent.result, result.len());
-    let work_end = least(lent.work, work.len());
+    let result_end = lent.result.min(result.len());
+    let work_end = lent.work.min(work.len());
     let answer = reference_import::importing::import(
         text,
         &mut tables,
         &mut lists,
-        &mut result[0..result_end],
-        &mut work[0..work_end],
+        &mut result[..result_end],
+        &mut work[..work_end],
     );
-    let cleared = work_right(work, lent.work);
-    let left = cleared && same(result, expected);
     Tried {
-        seen: Seen(answer.number, answer.place, answer.rows),
-        left: left,
+        seen: seen_again(answer),
+        left: work_right(&work, lent.work) && result.as_slice() == expected,
     }
 }
 
@@ -171,12 +165,11 @@ pub fn try_text(
     lent: Lent,
     tally: Tally,
 ) -> Tally {
-    let mut room = result_room();
-    let result: &mut [u8] = &mut room;
+    let mut result = result_room();
     let expected = expected_of(numbers, count);
-    put_expected(numbers, expected, lent, result);
-    let one = import_lent(text, lent, result);
-    let two = import_again(text, lent, result);
+    put_expected(numbers, expected, lent, &mut result);
+    let one = import_lent(text, lent, &result);
+    let two = import_again(text, lent, &result);
     let after = scripted_texts::tell::judge(
         rt,
         line,
