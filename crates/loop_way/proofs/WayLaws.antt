@@ -9,6 +9,7 @@ use native.Mathlib.Decide.{dec_lt}
 use lib.ListN.{length}
 use lib.Dec.{leb}
 use borrow.Author.Tests.{leb-true, not-false}
+use Rattle.std.specs.Prelude.{Result, Ok}
 use Rattle.memory.specs.Slots.{slot_at, set_slot}
 use Rattle.memory.proofs.SlotLaws.{slot_same, slot-other}
 use Rattle.netlist.specs.Limits.{most_rows, row_work_bytes}
@@ -16,9 +17,8 @@ use Rattle.netlist.specs.Rows.{Row}
 use Rattle.netlist.specs.FileFormat.{netlist_of}
 use Rattle.aiger.specs.AigerText.{line_count, is_distinct, is_defined}
 use Rattle.aiger.specs.AigerRows.{text_rows}
-use Rattle.blockfile.specs.declared.count.Counts.{Counts}
-use Rattle.accept.specs.declared.Acceptance.{Acceptance}
-use Rattle.accept.specs.declared.Acceptance.TheVariants.{Accepted}
+use Rattle.accept.specs.declared.Accepted.{Accepted}
+use Rattle.accept.specs.declared.FileRefusal.{FileRefusal}
 use Rattle.accept.specs.Refusals.{accept_refusal, CheckedUnordered}
 use Rattle.accept.proofs.RefusalLaws.{unordered-ready}
 use Rattle.gate_rows.specs.Sources.{source_rows, Source}
@@ -41,8 +41,8 @@ pub no_way : (rows : List Row) (list : List ℕ) (n start : ℕ) → n ≡ 0 →
 no_way rows list n start e = rw e (record { chain = no-chain rows list; early = λ l. absurd (omega arith); closed = λ x l. absurd (omega arith) })
 
 -- A slot below n has the row.
-pub closed_at : (list : List ℕ) (n row start : ℕ) → start < n → (start < n → slot_at list start ≡ row) → ClosedAt list n row n start
-closed_at list n row start l h = record { all = λ _. refl; early = λ _. l; has = λ _. h l }
+pub closed_at : (list : List ℕ) (n row start : ℕ) → start < n → slot_at list start ≡ row → ClosedAt list n row n start
+closed_at list n row start l h = record { all = λ _. refl; early = λ _. l; has = λ _. h }
 
 -- The first n slots are a chain, whose last gate names the row that is next.
 pub record Walking (rows : List Row) (list : List ℕ) (n row : ℕ) : Type 0 where
@@ -92,11 +92,11 @@ pub way-in-file : (f list : List ℕ) (n start : ℕ) → IsWay (source_rows lay
 way-in-file f list n start W = subst (λ (rows : List Row). IsWay rows list n start) (file-is f) W
 
 -- An accepted file is a source, and a list as long as Sort's work for the greatest file has a slot for each of its rows.
-module _ (file : List ℕ) (a : Acceptance) (A : CheckedUnordered file a) (n : ℕ) (c : Counts) (e : a ≡ Accepted n c) where
-  pub accepted-source : Source layout.File file n
-  accepted-source = file-source file n (unordered-ready file a A n c e) (sym A.refusal ∙ ap accept_refusal e)
+module _ (file : List ℕ) (a : Result Accepted FileRefusal) (A : CheckedUnordered file a) (y : Accepted) (e : a ≡ Ok y) where
+  pub accepted-source : Source layout.File file y.rows
+  accepted-source = file-source file y.rows (unordered-ready file a A y e) (sym A.refusal ∙ ap accept_refusal e)
 
-  pub slots-enough : (list : List ℕ) → row_work_bytes most_rows ≤ length list → 2 * n ≤ length list
+  pub slots-enough : (list : List ℕ) → row_work_bytes most_rows ≤ length list → 2 * y.rows ≤ length list
   slots-enough list room = let few = accepted-source.few in omega arith
 
 -- The rows of a text that fits a file: its pairs, and behind them the tree of names.

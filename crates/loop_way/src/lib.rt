@@ -1,7 +1,7 @@
 // The way from the lowest gate that is never placed to the loop of gates that it waits for, in a file or in an AIGER text, for whoever is to mend it.
 #![tactic(auto)]
 
-ghost use Rattle.std.specs.Prelude.{◌≡◌, ◌*◌, ◌<◌, ◌≤◌, length};
+ghost use Rattle.std.specs.Prelude.{◌≡◌, ◌*◌, ◌<◌, ◌≤◌, length, IfSome};
 ghost use Rattle.memory.specs.Slots.{slot_at};
 ghost use Rattle.netlist.specs.FileFormat.{netlist_of};
 ghost use Rattle.aiger.specs.AigerRows.{text_rows};
@@ -10,8 +10,7 @@ ghost use Rattle.aiger_lines.specs.Lines.{Counted};
 ghost use Rattle.aiger_names.specs.Names.{name_bytes};
 ghost use Rattle.loop_way.specs.Ways.{ClosedAt, IsWay};
 
-use accept::Acceptance;
-use aiger_lines::{Headed, Header};
+use aiger_lines::Header;
 use gate_rows::{Layout, Pairs};
 use netlist::{LARGE_WORK_BYTES, MOST_FILE_ROWS};
 
@@ -28,19 +27,17 @@ fn no_way() -> Way
     Way { count: 0, start: 0 }
 }
 
-// The first of the `count` slots that has this row; `count` if none has.
-fn index_of(list: &[u8], count: usize, row: usize) -> usize
+// The first of the `count` slots that has this row.
+fn index_of(list: &[u8], count: usize, row: usize) -> Option<usize>
     requires { 2 * count ≤ length list.now }
-    ensures { result < count → slot_at list.now result ≡ row }
+    ensures { IfSome result (λ index. (index < count) × (slot_at list.now index ≡ row)) }
 {
-    let mut index = 0;
-    'slots: while index < count {
+    for index in 0..count {
         if memory::slot_at(list, index) == row {
-            return index;
+            return Some(index);
         }
-        index += 1;
     }
-    count
+    None
 }
 
 // The way of the gates in these slots, if the last one names the row in one of them.
@@ -48,14 +45,9 @@ fn close(list: &[u8], count: usize, row: usize) -> Way
     requires { 2 * count ≤ length list.now }
     ensures { ClosedAt list.now count row result.count result.start }
 {
-    let start = index_of(list, count, row);
-    if start < count {
-        Way {
-            count: count,
-            start: start,
-        }
-    } else {
-        no_way()
+    match index_of(list, count, row) {
+        Some(start) => Way { count, start },
+        None => no_way(),
     }
 }
 
@@ -73,17 +65,15 @@ fn follow(
     ensures { IsWay (source_rows layout source.now) list.new result.count result.start }
 {
     let mut row = first;
-    let mut count = 0;
-    'walk: while count < rows {
-        memory::set_slot(&mut *list, count, row);
-        count += 1;
+    for index in 0..rows {
+        memory::set_slot(&mut *list, index, row);
         let next = gate_loops::unsettled_operand(source, layout, slots, rows, row);
         if next == 0 {
             return no_way();
         }
         let opened = row + 1;
         if memory::slot_at(slots, next) != opened {
-            return close(list, count, next);
+            return close(list, index + 1, next);
         }
         row = next;
     }
@@ -118,10 +108,10 @@ pub fn find_way(file: &[u8], list: &mut [u8]) -> Way
     if list.len() < LARGE_WORK_BYTES {
         return no_way();
     }
-    match accept::accept_unordered(file) {
-        Acceptance::Refused(_) => no_way(),
-        Acceptance::Accepted { rows, counts: _ } => find_in(file, Layout::File, rows, list),
-    }
+    let Ok(accepted) = accept::accept_unordered(file) else {
+        return no_way();
+    };
+    find_in(file, Layout::File, accepted.rows, list)
 }
 
 // ---- AIGER texts
@@ -166,14 +156,12 @@ pub fn find_text_way(text: &[u8], list: &mut [u8]) -> Way
     if list.len() < LARGE_WORK_BYTES {
         return no_way();
     }
-    match aiger_lines::read_header(text) {
-        Headed::Other => no_way(),
-        Headed::Is(h, from) => {
-            if aiger_lines::lines_right(text, h, from) {
-                find_in_lines(text, h, from, list)
-            } else {
-                no_way()
-            }
-        }
+    let Some((h, from)) = aiger_lines::read_header(text) else {
+        return no_way();
+    };
+    if aiger_lines::lines_right(text, h, from) {
+        find_in_lines(text, h, from, list)
+    } else {
+        no_way()
     }
 }

@@ -3,5 +3,5 @@
 use Rattle.loop_way.proofs.WayLaws.{closed_at}
 use Rattle.loop_way.proofs.close.Goals as goal
 
-pub returns-then-start-count : goal.returns-then-start-count
-returns-then-start-count c = search closed_at
+pub returns-in-Some : goal.returns-in-Some
+returns-in-Some c = closed_at _ _ _ _ c.in-Some.ensures.0 c.in-Some.ensures.1

@@ -14,8 +14,8 @@ lines_right-requires c = record { text_value = (search header_is, search header-
 pub find_in_lines-requires : goal.find_in_lines-requires
 find_in_lines-requires c = (search header-counted, search rules)
 
-pub returns-in-Other : goal.returns-in-Other
-returns-in-Other c = search no_way
+pub returns-in_default : goal.returns-in_default
+returns-in_default c = search no_way
 
 pub returns-else-lines_right : goal.returns-else-lines_right
 returns-else-lines_right c = search no_way

@@ -7,5 +7,5 @@ use Rattle.loop_way.proofs.find_way.Goals as goal
 pub find_in-requires : goal.find_in-requires
 find_in-requires c = (search accepted-source, search (slots-enough, rules))
 
-pub returns-in-Accepted : goal.returns-in-Accepted
-returns-in-Accepted c = search way-in-file
+pub returns : goal.returns
+returns c = search way-in-file
