@@ -29,11 +29,9 @@ fn settle_sources(source: &[u8], layout: Layout, slots: &mut [u8], rows: usize)
     ensures sources_settled { SourcesSettled (source_rows layout source.now) slots.new }
     ensures slots_len_unchanged { length slots.new ≡ length slots.old }
 {
-    let mut row = 0;
-    'rows: while row < rows {
+    for row in 0..rows {
         let slot = first_slot(source, layout, row);
         memory::set_slot(&mut *slots, row, slot);
-        row += 1;
     }
 }
 
@@ -49,13 +47,11 @@ pub fn unsettled_operand(
     ensures { Unsettled (source_rows layout source.now) slots.now row result }
 {
     let count = gate_rows::operand_count(source, layout, row);
-    let mut index = 0;
-    'operands: while index < count {
+    for index in 0..count {
         let node = gate_rows::operand_at(source, layout, row, index);
         if memory::slot_at(slots, node) != SETTLED {
             return node;
         }
-        index += 1;
     }
     0
 }
@@ -96,14 +92,10 @@ pub fn find_loop(source: &[u8], layout: Layout, slots: &mut [u8], rows: usize) -
     ensures slots_len_unchanged { length slots.new ≡ length slots.old }
 {
     settle_sources(source, layout, &mut *slots, rows);
-    let mut row = 0;
-    'rows: while row < rows {
-        if memory::slot_at(slots, row) == 0 {
-            if !settle(source, layout, &mut *slots, rows, row) {
-                return row;
-            }
+    for row in 0..rows {
+        if memory::slot_at(slots, row) == 0 && !settle(source, layout, &mut *slots, rows, row) {
+            return row;
         }
-        row += 1;
     }
     rows
 }

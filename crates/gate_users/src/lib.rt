@@ -26,13 +26,11 @@ fn keep_heads(source: &[u8], layout: Layout, users: &mut [u8], rows: usize, row:
     ensures { HeadsKept (source_rows layout source.now) row (length (operands_of (row_at (source_rows layout source.now) row))) users.old users.new }
 {
     let count = gate_rows::operand_count(source, layout, row);
-    let mut index = 0;
-    'operands: while index < count {
+    for index in 0..count {
         let node = gate_rows::operand_at(source, layout, row, index);
         let head = memory::slot_at(users, node);
         let offset = entry_offset(rows, row, index);
         memory::write_u16(users, offset, head as u32);
-        index += 1;
     }
 }
 
@@ -43,11 +41,9 @@ fn set_heads(source: &[u8], layout: Layout, users: &mut [u8], row: usize)
     ensures { HeadsSet (source_rows layout source.now) row (operands_of (row_at (source_rows layout source.now) row)) users.old users.new }
 {
     let count = gate_rows::operand_count(source, layout, row);
-    let mut index = 0;
-    'operands: while index < count {
+    for index in 0..count {
         let node = gate_rows::operand_at(source, layout, row, index);
         memory::set_slot(users, node, row);
-        index += 1;
     }
 }
 
@@ -69,10 +65,8 @@ pub fn list_users(source: &[u8], layout: Layout, users: &mut [u8], rows: usize)
 {
     let heads = 2 * rows;
     memory::clear(&mut users[..heads]);
-    let mut row = 0;
-    'rows: while row < rows {
+    for row in 0..rows {
         list_row(source, layout, &mut *users, rows, row);
-        row += 1;
     }
 }
 
@@ -99,13 +93,11 @@ pub fn next_user(
     ensures { result ≡ last_user (source_rows layout source.now) node user }
 {
     let count = gate_rows::operand_count(source, layout, user);
-    let mut index = 0;
-    'operands: while index < count {
+    for index in 0..count {
         if gate_rows::operand_at(source, layout, user, index) == node {
             let offset = entry_offset(rows, user, index);
             return blockfile::field_at(users, offset);
         }
-        index += 1;
     }
     0
 }

@@ -13,12 +13,10 @@ fn first_ready(work: &[u8], rows: usize, from: usize, to: usize) -> usize
     requires { ReadyRoom rows work.now × ((from ≤ to) × (to ≤ rows)) }
     ensures { result ≡ first_ready_from work.now from to }
 {
-    let mut row = from;
-    'rows: while row < to {
+    for row in from..to {
         if memory::slot_at(work, row) == READY {
             return row;
         }
-        row += 1;
     }
     to
 }
@@ -28,9 +26,7 @@ fn group_end(rows: usize, group: usize) -> usize
     requires { (64 * group < rows) × (rows < 2 ^ 63) }
     ensures { result ≡ group_end rows group }
 {
-    let start = GROUP * group;
-    let end = start + GROUP;
-    if end < rows { end } else { rows }
+    (GROUP * group + GROUP).min(rows)
 }
 
 // The first ready row in the groups from `start` on, where none is in those before; `rows` if there is none. The mark of a group that has none is cleared.
@@ -39,9 +35,7 @@ fn lowest_from(work: &mut [u8], rows: usize, start: usize) -> usize
     ensures value { result ≡ first_ready rows work.old }
     ensures slots_kept { SlotsKept rows work.old work.new × ReadyMarked rows work.new (64 * start) }
 {
-    let mut group = start;
-    'groups: while GROUP * group < rows {
-        let next = group + 1;
+    for group in start..rows.div_ceil(GROUP) {
         let mark = 2 * rows + group;
         if work[mark] != 0 {
             let first = GROUP * group;
@@ -52,7 +46,6 @@ fn lowest_from(work: &mut [u8], rows: usize, start: usize) -> usize
             }
             work[mark] = 0;
         }
-        group = next;
     }
     rows
 }
@@ -83,5 +76,5 @@ pub fn make_ready(work: &mut [u8], rows: usize, row: usize, low: usize) -> usize
     memory::set_slot(&mut *work, row, READY);
     let mark = 2 * rows + row / GROUP;
     work[mark] = 1;
-    if row < low { row } else { low }
+    row.min(low)
 }
