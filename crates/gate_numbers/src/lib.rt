@@ -13,7 +13,6 @@ ghost use Rattle.ready_gates.specs.ReadySlots.{ReadyRoom, ReadyMarked};
 ghost use Rattle.gate_users.specs.Users.{Listed};
 ghost use Rattle.gate_numbers.specs.Numbers.{placed_slot, is_placed_in, of_kinds, KindsFit, KindsNumbered, SourcesNumbered, gate_of, Woken, Placed, NextGate, GatePlaced, NodesPlaced, Numbered};
 
-use blockfile::both;
 use gate_rows::Layout;
 
 // A placed row's slot is this, plus its new number.
@@ -25,13 +24,11 @@ fn operands_placed(source: &[u8], layout: Layout, slots: &[u8], rows: usize, row
     ensures { result ≡ gate_of (source_rows layout source.now) (is_placed_in slots.now) row }
 {
     let count = gate_rows::operand_count(source, layout, row);
-    let mut index = 0;
-    'operands: while index < count {
+    for index in 0..count {
         let node = gate_rows::operand_at(source, layout, row, index);
         if memory::slot_at(slots, node) < PLACED {
             return false;
         }
-        index += 1;
     }
     0 < count
 }
@@ -53,7 +50,7 @@ fn number_row(
     ensures slots_after { slots.new ≡ cond (of_kinds least most (row_at (source_rows layout source.now) row)) (set_slot slots.old row (placed_slot + number)) slots.old }
 {
     let kind = gate_rows::row_kind(source, layout, row);
-    if both(least <= kind, kind <= most) {
+    if least <= kind && kind <= most {
         let slot = PLACED + number;
         memory::set_slot(slots, row, slot);
         number + 1
@@ -77,10 +74,8 @@ fn number_kinds(
     ensures value { result ≡ number + length (rows_that (source_rows layout source.now) (of_kinds least most)) }
 {
     let mut next = number;
-    let mut row = 0;
-    'rows: while row < rows {
+    for row in 0..rows {
         next = number_row(source, layout, slots, rows, row, least, most, next);
-        row += 1;
     }
     next
 }
@@ -120,10 +115,8 @@ fn find_ready(source: &[u8], layout: Layout, work: &mut [u8], rows: usize)
     requires { Source layout source.now rows × (SourcesNumbered (source_rows layout source.now) work.old × ReadyRoom rows work.old) }
     ensures { Placed (source_rows layout source.now) (rows_that (source_rows layout source.now) is_source) work.new × ReadyMarked rows work.new 0 }
 {
-    let mut row = 0;
-    'rows: while row < rows {
+    for row in 0..rows {
         wake_row(source, layout, &mut *work, rows, row, 0);
-        row += 1;
     }
 }
 
@@ -169,17 +162,15 @@ fn place_gates(
     requires number_value { number ≡ length (rows_that (source_rows layout source.now) is_source) }
     ensures { NodesPlaced (source_rows layout source.now) work.new result }
 {
-    let mut next = number;
     let mut low = 0;
-    'gates: while next < rows {
+    for next in number..rows {
         let row = ready_gates::lowest_ready(&mut *work, rows, low);
         if row == rows {
             return next;
         }
         low = place_gate(source, layout, users, &mut *work, rows, row, next);
-        next += 1;
     }
-    next
+    rows
 }
 
 // Numbers all rows; `users` is for the lists.

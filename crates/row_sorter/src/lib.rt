@@ -54,10 +54,8 @@ fn place_rows(source: &[u8], layout: Layout, res: &mut [u8], slots: &[u8], rows:
     ensures rows_stand { RowsStand (sorted_netlist (source_rows layout source.now)) res.new }
     ensures res_len_unchanged { length res.new ≡ length res.old }
 {
-    let mut row = 0;
-    'rows: while row < rows {
+    for row in 0..rows {
         place_row(source, layout, &mut *res, slots, rows, row);
-        row += 1;
     }
 }
 

@@ -1,12 +1,8 @@
 -- `number_kinds` meets its contract. The loop's invariant: the rows below `row` are numbered.
 -- Assumes nothing.
-use Prim.Native.Nat.{◌-◌, ◌≤◌}
 use Rattle.gate_rows.specs.Sources.{source_rows}
 use Rattle.gate_numbers.proofs.NumberLaws.{Numbering}
 use Rattle.gate_numbers.proofs.number_kinds.Given as goal
 
-abbrev pub invariant-rows : goal.invariant-rows
-invariant-rows l = (l.row ≤ l.rows) × Numbering (source_rows l.layout l.source) l.least l.most l.number l.initial.slots l.slots l.row l.next
-
-abbrev pub decreases-rows : goal.decreases-rows
-decreases-rows l = l.rows - l.row
+abbrev pub invariant-loop-row : goal.invariant-loop-row
+invariant-loop-row l = Numbering (source_rows l.layout l.source) l.least l.most l.number l.initial.slots l.slots l.row l.next

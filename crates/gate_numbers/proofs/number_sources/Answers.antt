@@ -7,5 +7,8 @@ use Rattle.gate_numbers.proofs.number_sources.Goals as goal
 pub number_kinds-requires : goal.number_kinds-requires
 number_kinds-requires c = (search rules, (search kinds-fit, search rules))
 
-pub returns : goal.returns
-returns c = record { value = search sources-count; sources_numbered = search sources-numbered }
+pub returns-clause-value : goal.returns-clause-value
+returns-clause-value c = search sources-count
+
+pub returns-clause-sources_numbered : goal.returns-clause-sources_numbered
+returns-clause-sources_numbered c = search sources-numbered

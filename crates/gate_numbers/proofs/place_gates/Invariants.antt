@@ -1,14 +1,8 @@
 -- `place_gates` meets its contract. The loop's invariant: as many rounds as gates are placed, and the slots are those of the order so far.
 -- Assumes nothing.
-use Prim.Native.Nat.{◌-◌}
-use mathlib.Core.Path.{◌≡◌}
-use lib.ListN.{length}
 use Rattle.gate_rows.specs.Sources.{source_rows}
 use Rattle.gate_numbers.proofs.RoundLaws.{Rounds}
 use Rattle.gate_numbers.proofs.place_gates.Given as goal
 
-abbrev pub invariant-gates : goal.invariant-gates
-invariant-gates l = (length l.work ≡ length l.initial.work) × Rounds (source_rows l.layout l.source) l.rows l.number l.next l.low l.work
-
-abbrev pub decreases-gates : goal.decreases-gates
-decreases-gates l = l.rows - l.next
+abbrev pub invariant-loop-next : goal.invariant-loop-next
+invariant-loop-next l = Rounds (source_rows l.layout l.source) l.rows l.number l.next l.low l.work

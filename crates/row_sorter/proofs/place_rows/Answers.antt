@@ -1,12 +1,9 @@
 use borrow.Author.Rules.{rules}
-use Rattle.row_sorter.proofs.WriteLaws.{writing-none, writing-next, writing-done}
+use Rattle.row_sorter.proofs.WriteLaws.{writing-next, writing-done}
 use Rattle.row_sorter.proofs.place_rows.Goals as goal
 
-pub rows-init : goal.rows-init
-rows-init c = search (writing-none, rules)
+pub loop-row-preserved : goal.loop-row-preserved
+loop-row-preserved c = search (writing-next, rules)
 
-pub rows-preserved : goal.rows-preserved
-rows-preserved c = (search rules, search (writing-next, rules))
-
-pub returns : goal.returns
-returns c = search writing-done
+pub returns-clause-rows_stand : goal.returns-clause-rows_stand
+returns-clause-rows_stand c = search writing-done
