@@ -7,6 +7,7 @@ use mathlib.Core.List.{List, [], ◌∷◌}
 use native.Mathlib.Omega.{arith}
 use lib.ListN.{length, replicate}
 use lib.Dec.{leb}
+use Rattle.std.specs.Prelude.{Result, Ok, Err}
 use Rattle.memory.specs.Fields.{IsBytes}
 use Rattle.netlist.specs.Limits.{row_work_bytes}
 use Rattle.netlist.specs.Rows.{Row}
@@ -20,26 +21,20 @@ use Rattle.ordering.specs.SortQuestions.{loop_refusal, sort_memory_right, sort_r
 use Rattle.ordering.proofs.LoopLaws.{loop-last}
 use Rattle.ordering.proofs.SortRefusalMeaning.{sort_memory_right-iff}
 use Rattle.blockfile.specs.Ready.{Ready}
-use Rattle.blockfile.specs.declared.count.Counts.{Counts}
 use Rattle.gate_rows.specs.Sources.{source_rows, Source}
 use Rattle.gate_rows.specs.declared.Layout.TheVariants as layout
 use Rattle.row_sorter.specs.Placing.{RowsSorted}
 use Rattle.gate_rows.proofs.SourceLaws.{file-is, file-source}
 use Rattle.accept.specs.Refusals.{refusal_in, accept_refusal, CheckedUnordered}
 use Rattle.accept.specs.declared.FileRefusal.{FileRefusal}
-use Rattle.accept.specs.declared.Acceptance.{Acceptance}
-use Rattle.accept.specs.declared.Acceptance.TheVariants as accept
+use Rattle.accept.specs.declared.Accepted.{Accepted}
 use Rattle.accept.proofs.RefusalLaws.{number-positive, unordered-ready}
 use Rattle.sort_answers.specs.SortAnswers.{sort_refusal_in, sorting_refusal, rows_in}
 use Rattle.sort_answers.specs.SortOutcome.{Sorted}
 use Rattle.sort_answers.specs.declared.SortRefusal.{SortRefusal}
 use Rattle.sort_answers.specs.declared.SortRefusal.TheVariants.{File, Memory}
-use Rattle.sort_answers.specs.declared.Sorting.{Sorting}
-use Rattle.sort_answers.specs.declared.Sorting.TheVariants.{Refused}
 use Rattle.sort_answers.proofs.SortedLaws.{sort-positive, sort-refused, sort-answered}
 use Rattle.sort.specs.SortParts.{Sortable, plan_asked, plan_refusal, SortPlanned}
-use Rattle.sort.specs.declared.SortPlan.{SortPlan}
-use Rattle.sort.specs.declared.SortPlan.TheVariants.{Go, Stop}
 
 -- ---- 1 to 10 and 23
 
@@ -49,8 +44,8 @@ sortable-of file n ready e q =
     let R = rows-of-file names_anywhere file F in
     record { source = file-source file n ready e; size = omega (arith, F.size.whole, R.2, q) }
 
-module _ (file : List ℕ) (result work : ℕ) (a : Acceptance) (C : CheckedUnordered file a) where
-  pub plan-file : (r : FileRefusal) → a ≡ accept.Refused r → SortPlanned file result work (Stop (File r))
+module _ (file : List ℕ) (result work : ℕ) (a : Result Accepted FileRefusal) (C : CheckedUnordered file a) where
+  pub plan-file : (r : FileRefusal) → a ≡ Err r → SortPlanned file result work (Err (File r))
   plan-file r e =
       let q : unordered_refusal file ≡ refusal_in r = sym C.refusal ∙ ap accept_refusal e in
       record {
@@ -58,30 +53,23 @@ module _ (file : List ℕ) (result work : ℕ) (a : Acceptance) (C : CheckedUnor
         go = λ n p. absurd (let z : ◌≡◌ {A = ℕ} 0 1 = cc p in omega arith);
       }
 
-  module _ (n : ℕ) (c : Counts) (e : a ≡ accept.Accepted n c) (right : Bool) (least : ℕ) (asked : least ≡ row_work_bytes n) (t : right ≡ leb (length file) result && leb least work) where
-    test : right ≡ sort_memory_right file result work
-    test = t ∙ rw (asked, C.count n c e)
-
+  module _ (y : Accepted) (e : a ≡ Ok y) where
     none : unordered_refusal file ≡ no_refusal
     none = sym C.refusal ∙ ap accept_refusal e
 
     past : plan_asked file result work ≡ first_refusal (question 23 (sort_memory_right file result work) ∷ [])
     past = list-next (unordered_refusal file) (question 23 (sort_memory_right file result work) ∷ []) (number-none _ none)
 
-    pub plan-go : right ≡ true → SortPlanned file result work (Go n)
-    plan-go h = record {
-      refusal = sym (past ∙ list-yes 23 (sort_memory_right file result work) [] (sym test ∙ h));
-      go = λ m p. subst (λ (k : ℕ). Sortable file k × ((length file ≤ result) × (row_work_bytes k ≤ work))) (let z : n ≡ m = cc p in z) (sortable-of file n (unordered-ready file a C n c e) none (C.count n c e), rw (C.count n c e) ((sort_memory_right-iff file result work).0 (sym test ∙ h)));
-    }
-
-    pub plan-memory : right ≡ false → SortPlanned file result work (Stop Memory)
-    plan-memory h = record {
-      refusal = sym (past ∙ list-no 22 (sort_memory_right file result work) [] (sym test ∙ h));
-      go = λ m p. absurd (let z : ◌≡◌ {A = ℕ} 0 1 = cc p in omega arith);
-    }
+    pub plan-go : (least : ℕ) → least ≡ row_work_bytes y.rows → length file ≤ result → least ≤ work → SortPlanned file result work (Ok y.rows)
+    plan-go least asked size room =
+        let right : sort_memory_right file result work ≡ true = (sort_memory_right-iff file result work).1 (size, omega (arith, asked, ap row_work_bytes (C.count y e))) in
+        record {
+          refusal = sym (past ∙ list-yes 23 (sort_memory_right file result work) [] right);
+          go = λ m p. subst (λ (k : ℕ). Sortable file k × ((length file ≤ result) × (row_work_bytes k ≤ work))) (let z : y.rows ≡ m = cc p in z) (sortable-of file y.rows (unordered-ready file a C y e) none (C.count y e), (size, omega (arith, asked)));
+        }
 
 -- What a plan to go on says.
-module _ (file : List ℕ) (result work : ℕ) (plan : SortPlan) (P : SortPlanned file result work plan) (n : ℕ) (e : plan ≡ Go n) where
+module _ (file : List ℕ) (result work : ℕ) (plan : Result ℕ SortRefusal) (P : SortPlanned file result work plan) (n : ℕ) (e : plan ≡ Ok n) where
   pub plan-sortable : Sortable file n
   plan-sortable = (P.go n e).0
 
@@ -111,13 +99,13 @@ module _ (file : List ℕ) (result work : ℕ) where
   unfolding sort_refusal
   plan-passes h = first-behind (unordered_refusal file ∷ question 23 (sort_memory_right file result work) ∷ []) (loop_refusal (netlist_of file) ∷ []) (same_number h) ∙ loop-last (netlist_of file)
 
-module _ (file result work work' : List ℕ) (plan : SortPlan) (P : SortPlanned file (length result) (length work) plan) where
-  pub stopped_by : (r : SortRefusal) → plan ≡ Stop r → work' ≡ replicate (length work) 0 → Sorted file result result work work' (Refused r)
+module _ (file result work work' : List ℕ) (plan : Result ℕ SortRefusal) (P : SortPlanned file (length result) (length work) plan) where
+  pub stopped_by : (r : SortRefusal) → plan ≡ Err r → work' ≡ replicate (length work) 0 → Sorted file result result work work' (Err r)
   stopped_by r e clear =
       let q : sort_refusal_in r ≡ plan_asked file (length result) (length work) = sym (ap plan_refusal e) ∙ P.refusal in
       sort-refused file result work work' clear r (q ∙ sym (plan-refuses file (length result) (length work) (omega (arith, sort-positive r, same_number q))))
 
-  pub sorted-by : (n : ℕ) (result' : List ℕ) (answer : Sorting) → plan ≡ Go n → IsBytes file → RowsSorted (netlist_of file) result result' (sorting_refusal answer) (rows_in answer) → (w : List ℕ) → length w ≡ length work → work' ≡ replicate (length w) 0 → Sorted file result result' work work' answer
+  pub sorted-by : (n : ℕ) (result' : List ℕ) (answer : Result ℕ SortRefusal) → plan ≡ Ok n → IsBytes file → RowsSorted (netlist_of file) result result' (sorting_refusal answer) (rows_in answer) → (w : List ℕ) → length w ≡ length work → work' ≡ replicate (length w) 0 → Sorted file result result' work work' answer
   sorted-by n result' answer e bytes D w long clear =
       sort-answered file result work work' (clear ∙ ap (λ (k : ℕ). replicate k 0) long) result' answer bytes (D.refusal ∙ sym (plan-passes file (length result) (length work) (sym P.refusal ∙ ap plan_refusal e)))
       (D.count ∙ ap (λ (q : Refusal). unless_refused q (length (netlist_of file)) 0) (sym D.refusal))

@@ -9,13 +9,12 @@ ghost use Rattle.sort_answers.specs.SortAnswers.{sorting_refusal, rows_in};
 ghost use Rattle.sort_answers.specs.SortOutcome.{Sorted};
 ghost use Rattle.sort.specs.SortParts.{Sortable, SortPlanned};
 
-use accept::Acceptance;
-use blockfile::both;
+use accept::Accepted;
 use gate_rows::Layout;
-use sort_answers::{SortRefusal, Sorting};
+use sort_answers::SortRefusal;
 
 // 22, and the sorted file if it is passed.
-fn sort_rows(file: &[u8], res: &mut [u8], work: &mut [u8], rows: usize) -> Sorting
+fn sort_rows(file: &[u8], res: &mut [u8], work: &mut [u8], rows: usize) -> Result<u32, SortRefusal>
     requires { Sortable file.now rows × ((length file.now ≤ length res.old) × (row_work_bytes rows ≤ length work.old)) }
     ensures rows_sorted { RowsSorted (netlist_of file.now) res.old res.new (sorting_refusal result) (rows_in result) }
     ensures work_len_unchanged { length work.new ≡ length work.old }
@@ -23,46 +22,36 @@ fn sort_rows(file: &[u8], res: &mut [u8], work: &mut [u8], rows: usize) -> Sorti
     let first = row_sorter::sort_rows(file, Layout::File, res, work, rows);
     if first < rows {
         let row = first as u32;
-        return Sorting::Refused(SortRefusal::Loop { row: row });
+        return Err(SortRefusal::Loop { row });
     }
     let count = rows as u32;
-    Sorting::Done { rows: count }
+    Ok(count)
 }
 
 // 1 to 10 and 23: how many rows are to be sorted, or why they are not.
-#[derive(Clone, Copy)]
-enum SortPlan {
-    Go { rows: usize },
-    Stop(SortRefusal),
-}
-
-fn plan_sort(file: &[u8], res: usize, work: usize) -> SortPlan
+fn plan_sort(file: &[u8], res: usize, work: usize) -> Result<usize, SortRefusal>
     ensures { SortPlanned file.now res work result }
 {
-    match accept::accept_unordered(file) {
-        Acceptance::Refused(refusal) => SortPlan::Stop(SortRefusal::File(refusal)),
-        Acceptance::Accepted { rows, counts: _ } => {
-            let size = file.len();
-            let least = netlist::row_work(rows);
-            if both(size <= res, least <= work) {
-                SortPlan::Go { rows: rows }
-            } else {
-                SortPlan::Stop(SortRefusal::Memory)
-            }
-        }
+    let Accepted { rows, counts: _ } = accept::accept_unordered(file)?;
+    let size = file.len();
+    let least = netlist::row_work(rows);
+    if size <= res && least <= work {
+        Ok(rows)
+    } else {
+        Err(SortRefusal::Memory)
     }
 }
 
 // The sorted file in `result`, with zeros to its end; a refusal leaves it as it was. Work is cleared on every return.
-pub fn sort(file: &[u8], res: &mut [u8], work: &mut [u8]) -> Sorting
+pub fn sort(file: &[u8], res: &mut [u8], work: &mut [u8]) -> Result<u32, SortRefusal>
     ensures { Sorted file.now res.old res.new work.old work.new result }
 {
     match plan_sort(file, res.len(), work.len()) {
-        SortPlan::Stop(refusal) => {
+        Err(refusal) => {
             memory::clear(work);
-            Sorting::Refused(refusal)
+            Err(refusal)
         }
-        SortPlan::Go { rows } => {
+        Ok(rows) => {
             let answer = sort_rows(file, res, &mut *work, rows);
             memory::clear(work);
             answer

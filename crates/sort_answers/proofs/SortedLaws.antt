@@ -5,6 +5,7 @@ use mathlib.Core.Path.{◌≡◌, sym, ap, ◌∙◌, subst}
 use mathlib.Core.List.{List}
 use native.Mathlib.Omega.{arith}
 use lib.ListN.{length, replicate}
+use Rattle.std.specs.Prelude.{Result, Err}
 use lib.Seq.{take_at}
 use Rattle.memory.specs.Fields.{IsBytes}
 use Rattle.netlist.specs.FileFormat.{netlist_of, blocks_for, file_of, file_in, file_left}
@@ -20,8 +21,6 @@ use Rattle.sort_answers.specs.SortAnswers.{sort_refusal_in, sorting_refusal, row
 use Rattle.sort_answers.specs.SortOutcome.{LeftSorted, Sorted}
 use Rattle.sort_answers.specs.declared.SortRefusal.{SortRefusal}
 use Rattle.sort_answers.specs.declared.SortRefusal.TheVariants.{File, Memory, Loop}
-use Rattle.sort_answers.specs.declared.Sorting.{Sorting}
-use Rattle.sort_answers.specs.declared.Sorting.TheVariants.{Refused}
 
 -- A refusal has a number.
 pub sort-positive : (r : SortRefusal) → 0 < (sort_refusal_in r).number
@@ -30,7 +29,7 @@ sort-positive Memory = omega arith
 sort-positive (Loop i) = omega arith
 
 module _ (file result work work' : List ℕ) (clear : work' ≡ replicate (length work) 0) where
-  pub sort-refused : (r : SortRefusal) → sort_refusal_in r ≡ sort_refusal file (length result) (length work) → Sorted file result result work work' (Refused r)
+  pub sort-refused : (r : SortRefusal) → sort_refusal_in r ≡ sort_refusal file (length result) (length work) → Sorted file result result work work' (Err r)
   sort-refused r e =
       let Some-number = number-some (sort_refusal_in r) (sort-positive r) in
       record {
@@ -42,7 +41,7 @@ module _ (file result work work' : List ℕ) (clear : work' ≡ replicate (lengt
         left = λ z. absurd (Some-number.1 z);
       }
 
-  module _ (result' : List ℕ) (answer : Sorting) (bytes : IsBytes file) (e : sorting_refusal answer ≡ sort_refusal file (length result) (length work)) (count : rows_in answer ≡ unless_refused (sorting_refusal answer) (length (netlist_of file)) 0)
+  module _ (result' : List ℕ) (answer : Result ℕ SortRefusal) (bytes : IsBytes file) (e : sorting_refusal answer ≡ sort_refusal file (length result) (length work)) (count : rows_in answer ≡ unless_refused (sorting_refusal answer) (length (netlist_of file)) 0)
       (written : result' ≡ unless_refused (sorting_refusal answer) (file_in (sorted_netlist (netlist_of file)) result) result) where
     guaranteed : sorting_refusal answer ≡ no_refusal → SortGuarantee file
     guaranteed z = sort-guarantee file bytes (length result) (length work) (sym e ∙ z)

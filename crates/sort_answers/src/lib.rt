@@ -2,42 +2,45 @@
 #![tactic(auto)]
 
 ghost use Rattle.std.specs.Prelude.{◌≡◌};
-ghost use Rattle.sort_answers.specs.SortAnswers.{sort_refusal_in};
+ghost use Rattle.sort_answers.specs.declared.SortRefusal.TheVariants.{File};
 
 use accept::FileRefusal;
+use questions::Numbered;
 
 // What a file is not sorted for; of a file, with its place.
-#[derive(Clone, Copy)]
+#[derive(Clone, Copy, Debug, PartialEq, Eq)]
 pub enum SortRefusal {
     File(FileRefusal),
     Memory,
     Loop { row: u32 },
 }
 
-// The paper's number of a refusal, and its place.
-pub fn number_of(refusal: SortRefusal) -> u32
-    ensures { result ≡ (sort_refusal_in refusal).number }
-{
-    match refusal {
-        SortRefusal::File(file) => accept::number_of(file),
-        SortRefusal::Memory => 23,
-        SortRefusal::Loop { row: _ } => 22,
+impl Numbered for SortRefusal {
+    ghost use Rattle.sort_answers.specs.SortAnswers.{sort_refusal_in};
+
+    ghost refusal = { sort_refusal_in };
+
+    fn number(self) -> u32 {
+        match self {
+            SortRefusal::File(file) => file.number(),
+            SortRefusal::Memory => 23,
+            SortRefusal::Loop { row: _ } => 22,
+        }
+    }
+
+    fn place(self) -> u32 {
+        match self {
+            SortRefusal::File(file) => file.place(),
+            SortRefusal::Memory => 0,
+            SortRefusal::Loop { row } => row,
+        }
     }
 }
 
-pub fn place_of(refusal: SortRefusal) -> u32
-    ensures { result ≡ (sort_refusal_in refusal).place }
-{
-    match refusal {
-        SortRefusal::File(file) => accept::place_of(file),
-        SortRefusal::Memory => 0,
-        SortRefusal::Loop { row } => row,
-    }
-}
+impl From<FileRefusal> for SortRefusal {
+    ghost from_gives = { λ file refusal. refusal ≡ File file };
 
-// How many rows the sorted file has, or why there is none.
-#[derive(Clone, Copy)]
-pub enum Sorting {
-    Done { rows: u32 },
-    Refused(SortRefusal),
+    fn from(file: FileRefusal) -> SortRefusal {
+        SortRefusal::File(file)
+    }
 }

@@ -9,10 +9,10 @@ use Rattle.sort.proofs.sort.Goals as goal
 pub sort_rows-answer-requires : goal.sort_rows-answer-requires
 sort_rows-answer-requires c = search (plan-sortable, plan-room, plan-work, rules)
 
-pub returns-in-Stop : goal.returns-in-Stop
-returns-in-Stop c = search (stopped_by, rules)
+pub returns-in-Err : goal.returns-in-Err
+returns-in-Err c = search (stopped_by, rules)
 
-pub returns-in-Go : goal.returns-in-Go
-returns-in-Go c =
+pub returns-in-Ok : goal.returns-in-Ok
+returns-in-Ok c =
     let bytes : IsBytes c.args.file.now = λ x. omega (arith, c.shared_slice_known-1.given x) in
     search (sorted-by, bytes)
