@@ -1,12 +1,13 @@
 -- The answers that C callers get, as numbers: those of the scope paper, "Questions, in order" and "Operations and lent memory".
 -- Interface: interface_number, refusal_numbers, accepted_counts, refused_counts, folded_numbers, written_numbers, traced_numbers.
 -- Assumes nothing.
-use Rattle.std.specs.Prelude.{ℕ}
+use Rattle.std.specs.Prelude.{ℕ, Result}
 use Rattle.questions.specs.Questions.{Refusal, Counts}
 use Rattle.fold_answers.specs.FoldAnswers.{folding_refusal, numbers_in}
-use Rattle.fold_answers.specs.declared.Folding.{Folding}
+use Rattle.fold_answers.specs.declared.FoldNumbers.{FoldNumbers}
+use Rattle.fold_refusals.specs.declared.FoldRefusal.{FoldRefusal}
 use Rattle.trace_answers.specs.TraceAnswers.{tracing_refusal, steps_in}
-use Rattle.trace_answers.specs.declared.Tracing.{Tracing}
+use Rattle.trace_answers.specs.declared.TraceRefusal.{TraceRefusal}
 use Rattle.c_answers.specs.declared.PfRefusal.{PfRefusal}
 use Rattle.c_answers.specs.declared.PfCounts.{PfCounts}
 use Rattle.c_answers.specs.declared.PfFolded.{PfFolded}
@@ -28,7 +29,7 @@ abbrev pub refused_counts : Refusal → PfCounts
 refused_counts q = record { number = q.number; place = q.place; nodes = 0; inputs = 0; registers = 0; unknown = 0; outputs = 0 }
 
 -- The refusal's number and place, and the fold's numbers.
-abbrev pub folded_numbers : Folding → PfFolded
+abbrev pub folded_numbers : Result FoldNumbers FoldRefusal → PfFolded
 folded_numbers a =
     let q = folding_refusal a in
     let n = numbers_in a in
@@ -39,5 +40,5 @@ abbrev pub written_numbers : Refusal → ℕ → PfWritten
 written_numbers q n = record { number = q.number; place = q.place; rows = n }
 
 -- The refusal, and the steps of the trace.
-abbrev pub traced_numbers : Tracing → PfTraced
+abbrev pub traced_numbers : Result ℕ TraceRefusal → PfTraced
 traced_numbers a = let q = tracing_refusal a in record { number = q.number; place = q.place; steps = steps_in a }

@@ -6,21 +6,15 @@ ghost use Rattle.netlist.specs.Limits.{most_blocks, most_rows};
 ghost use Rattle.questions.specs.Questions.{no_refusal};
 ghost use Rattle.blockfile.specs.CountCode.{counts_in, EachAtMost};
 ghost use Rattle.accept.specs.Refusals.{refusal_in};
-ghost use Rattle.run_answers.specs.RunAnswers.{run_refusal_in};
-ghost use Rattle.fold_refusals.specs.FoldRefusals.{fold_refusal_in};
 ghost use Rattle.show.specs.ShowOutcome.{part_offset};
-ghost use Rattle.import_answers.specs.ImportAnswers.{import_refusal_in};
-ghost use Rattle.sort_answers.specs.SortAnswers.{sort_refusal_in};
 ghost use Rattle.c_answers.specs.AnswerNumbers.{interface_number, refusal_numbers, accepted_counts, refused_counts, folded_numbers, written_numbers, traced_numbers};
 
 use accept::FileRefusal;
 use blockfile::count::Counts;
-use fold_answers::Folding;
+use fold_answers::FoldNumbers;
 use fold_refusals::FoldRefusal;
-use import_answers::ImportRefusal;
-use run_answers::RunRefusal;
-use sort_answers::SortRefusal;
-use trace_answers::Tracing;
+use questions::Numbered;
+use trace_answers::TraceRefusal;
 
 const INTERFACE: u32 = 6;
 
@@ -41,34 +35,13 @@ pub struct PfRefusal {
 pub fn told(number: u32, place: u32) -> PfRefusal
     ensures { result ≡ record { number = number; place = place } }
 {
-    PfRefusal {
-        number: number,
-        place: place,
-    }
+    PfRefusal { number, place }
 }
 
-pub fn file_numbers(refusal: FileRefusal) -> PfRefusal
-    ensures { result ≡ refusal_numbers (refusal_in refusal) }
+pub fn refusal_numbers<R: Numbered + Copy>(refusal: R) -> PfRefusal
+    ensures { result ≡ refusal_numbers (R.refusal refusal) }
 {
-    told(accept::number_of(refusal), accept::place_of(refusal))
-}
-
-pub fn run_numbers(refusal: RunRefusal) -> PfRefusal
-    ensures { result ≡ refusal_numbers (run_refusal_in refusal) }
-{
-    told(
-        run_answers::number_of(refusal),
-        run_answers::place_of(refusal),
-    )
-}
-
-pub fn fold_numbers(refusal: FoldRefusal) -> PfRefusal
-    ensures { result ≡ refusal_numbers (fold_refusal_in refusal) }
-{
-    told(
-        fold_refusals::number_of(refusal),
-        fold_refusals::place_of(refusal),
-    )
+    told(refusal.number(), refusal.place())
 }
 
 #[repr(C)]
@@ -87,19 +60,14 @@ pub fn counts_numbers(counts: Counts) -> PfCounts
     requires { EachAtMost (counts_in counts) most_rows }
     ensures { result ≡ accepted_counts (counts_in counts) }
 {
-    let nodes = counts.nodes as u32;
-    let inputs = counts.inputs as u32;
-    let registers = counts.registers as u32;
-    let unknown = counts.unknown as u32;
-    let outputs = counts.outputs as u32;
     PfCounts {
         number: 0,
         place: 0,
-        nodes: nodes,
-        inputs: inputs,
-        registers: registers,
-        unknown: unknown,
-        outputs: outputs,
+        nodes: counts.nodes as u32,
+        inputs: counts.inputs as u32,
+        registers: counts.registers as u32,
+        unknown: counts.unknown as u32,
+        outputs: counts.outputs as u32,
     }
 }
 
@@ -107,7 +75,7 @@ pub fn counts_numbers(counts: Counts) -> PfCounts
 pub fn refused_counts(refusal: FileRefusal) -> PfCounts
     ensures { result ≡ refused_counts (refusal_in refusal) }
 {
-    let cause = file_numbers(refusal);
+    let cause = refusal_numbers(refusal);
     PfCounts {
         number: cause.number,
         place: cause.place,
@@ -150,11 +118,11 @@ pub struct PfFolded {
     pub after: u32,
 }
 
-pub fn folded_numbers(answer: Folding) -> PfFolded
+pub fn folded_numbers(answer: Result<FoldNumbers, FoldRefusal>) -> PfFolded
     ensures { result ≡ folded_numbers answer }
 {
     match answer {
-        Folding::Done(numbers) => PfFolded {
+        Ok(numbers) => PfFolded {
             number: 0,
             place: 0,
             stem: numbers.stem,
@@ -164,8 +132,8 @@ pub fn folded_numbers(answer: Folding) -> PfFolded
             before: numbers.before,
             after: numbers.after,
         },
-        Folding::Refused(refusal) => {
-            let refused = fold_numbers(refusal);
+        Err(refusal) => {
+            let refused = refusal_numbers(refusal);
             PfFolded {
                 number: refused.number,
                 place: refused.place,
@@ -195,37 +163,19 @@ pub fn written(rows: u32) -> PfWritten
     PfWritten {
         number: 0,
         place: 0,
-        rows: rows,
+        rows,
     }
 }
 
 // No file was written.
-fn unwritten(number: u32, place: u32) -> PfWritten
-    ensures { (result.number ≡ number) × ((result.place ≡ place) × (result.rows ≡ 0)) }
+pub fn unwritten<R: Numbered + Copy>(refusal: R) -> PfWritten
+    ensures { result ≡ written_numbers (R.refusal refusal) 0 }
 {
     PfWritten {
-        number: number,
-        place: place,
+        number: refusal.number(),
+        place: refusal.place(),
         rows: 0,
     }
-}
-
-// A refused Sort.
-pub fn unsorted(refusal: SortRefusal) -> PfWritten
-    ensures { result ≡ written_numbers (sort_refusal_in refusal) 0 }
-{
-    let number = sort_answers::number_of(refusal);
-    let place = sort_answers::place_of(refusal);
-    unwritten(number, place)
-}
-
-// A refused Import.
-pub fn unimported(refusal: ImportRefusal) -> PfWritten
-    ensures { result ≡ written_numbers (import_refusal_in refusal) 0 }
-{
-    let number = import_answers::number_of(refusal);
-    let place = import_answers::place_of(refusal);
-    unwritten(number, place)
 }
 
 // A trace that is taken back: how many steps it has.
@@ -237,19 +187,22 @@ pub struct PfTraced {
     pub steps: u32,
 }
 
-pub fn traced_numbers(answer: Tracing) -> PfTraced
+pub fn traced_numbers(answer: Result<u32, TraceRefusal>) -> PfTraced
     ensures { result ≡ traced_numbers answer }
 {
     match answer {
-        Tracing::Done { steps } => PfTraced {
+        Ok(steps) => PfTraced {
             number: 0,
             place: 0,
-            steps: steps,
+            steps,
         },
-        Tracing::Refused(refusal) => PfTraced {
-            number: trace_answers::number_of(refusal),
-            place: trace_answers::place_of(refusal),
-            steps: 0,
-        },
+        Err(refusal) => {
+            let untraced = refusal_numbers(refusal);
+            PfTraced {
+                number: untraced.number,
+                place: untraced.place,
+                steps: 0,
+            }
+        }
     }
 }

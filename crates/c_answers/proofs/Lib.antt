@@ -1,2 +1,0 @@
--- Laws of the answers' numbers.
-pub mod NumberLaws
