@@ -18,19 +18,17 @@ use Rattle.netlist.specs.FileFormat.{netlist_of}
 use Rattle.questions.specs.Questions.{Refusal, first_refusal, question, file_refusal, Counts, counts_of, value_lists_right, all_binary, run_memory_right, run_refusal}
 use Rattle.questions.proofs.QuestionLaws.{list-yes, list-no}
 use Rattle.blockfile.specs.CountCode.{counts_in}
-use Rattle.blockfile.specs.declared.count.Counts as code
 use Rattle.accept.specs.Refusals.{Answered}
 use Rattle.accept.specs.declared.FileRefusal.{FileRefusal}
-use Rattle.accept.specs.declared.Acceptance.{Acceptance}
-use Rattle.accept.specs.declared.Acceptance.TheVariants.{Accepted, Refused}
+use Rattle.std.specs.Prelude.{Result, Ok, Err}
+use Rattle.accept.specs.declared.Accepted.{Accepted}
 use Rattle.accept.proofs.RefusalLaws.{file-passes, file-stops, accepted-counts}
 use Rattle.simulate.proofs.PlaceLaws.{count-parts}
 use Rattle.run_answers.specs.RunAnswers.{run_refusal_in}
 use Rattle.run_answers.specs.declared.RunRefusal.{RunRefusal}
 use Rattle.run_answers.specs.declared.RunRefusal.TheVariants.{File, Steps, Lists, Value, Memory}
 use Rattle.run.specs.RunPlans.{steps_refusal, StepsPlanned, RunPlanned}
-use Rattle.run.specs.declared.RunPlan.{RunPlan}
-use Rattle.run.specs.declared.RunPlan.TheVariants.{Go, Stop}
+use Rattle.simulate.specs.declared.Sizes.{Sizes}
 
 -- A number of steps times a count of rows is no large number.
 pub product-fits : (T n : ℕ) → T ≤ most_steps → n ≤ most_rows → T * n < 2 ^ 64
@@ -63,12 +61,12 @@ module _ (rows : List Row) (c : Counts) (e : c ≡ counts_of rows) (T : ℕ) (r 
 
 -- ---- plans
 
-abbrev is_go : RunPlan → ℕ
-is_go (Go a b d) = 1
-is_go (Stop q) = 0
-
-stop-not-go : (r : RunRefusal) {rows nodes ins : ℕ} → Stop r ≡ Go rows nodes ins → ⊥
+stop-not-go : (r : RunRefusal) {s : Sizes} → Err r ≡ Ok s → ⊥
 stop-not-go r e = omega (arith, ap is_go e)
+  where
+    is_go : Result Sizes RunRefusal → ℕ
+    is_go (Ok _) = 1
+    is_go (Err _) = 0
 
 -- ---- 17 to 20
 
@@ -86,7 +84,7 @@ module _ (n : ℕ) (c : Counts) (T : ℕ) (choices inputs : List ℕ) (result wo
   abbrev asked : List Row → Refusal
   asked rows = steps_refusal rows T choices inputs result work
 
-  abbrev Planned : RunPlan → Type 0
+  abbrev Planned : Result Sizes RunRefusal → Type 0
   Planned plan = StepsPlanned n c T choices inputs result work plan
 
   -- The lists and the memory, as told by the counts.
@@ -96,10 +94,10 @@ module _ (n : ℕ) (c : Counts) (T : ℕ) (choices inputs : List ℕ) (result wo
   abbrev pub MemoryTold : Bool → Type 0
   MemoryTold t = (rows : List Row) → c ≡ counts_of rows → t ≡ run_memory_right rows T result work
 
-  stopped : (r : RunRefusal) → ((rows : List Row) → c ≡ counts_of rows → run_refusal_in r ≡ asked rows) → Planned (Stop r)
-  stopped r h = record { refusal = h; go = λ rows nodes ins e. absurd (stop-not-go r e) }
+  stopped : (r : RunRefusal) → ((rows : List Row) → c ≡ counts_of rows → run_refusal_in r ≡ asked rows) → Planned (Err r)
+  stopped r h = record { refusal = h; go = λ s e. absurd (stop-not-go r e) }
 
-  pub stops-17 : most_steps < T → Planned (Stop Steps)
+  pub stops-17 : most_steps < T → Planned (Err Steps)
   unfolding steps_refusal
   stops-17 h = stopped Steps (λ rows e. sym (list-no 16 (leb T most_steps) (from18 rows) (lt-leb T most_steps h)))
 
@@ -108,67 +106,53 @@ module _ (n : ℕ) (c : Counts) (T : ℕ) (choices inputs : List ℕ) (result wo
     unfolding steps_refusal
     after-17 rows = list-yes 17 (leb T most_steps) (from18 rows) (le-leb T most_steps few)
 
-    pub stops-18 : not lists ≡ true → Planned (Stop Lists)
+    pub stops-18 : not lists ≡ true → Planned (Err Lists)
     stops-18 h = stopped Lists (λ rows e. sym (after-17 rows ∙ list-no 17 (value_lists_right rows T choices inputs) (from19 rows) (sym (lists-told rows e) ∙ not-true lists h)))
 
-    module _ (lists-right : not lists ≡ false) (values choices-told inputs-told : Bool) (values-told : values ≡ choices-told && inputs-told) (choices-are : choices-told ≡ all_binary choices) (inputs_are : inputs-told ≡ all_binary inputs) where
-      values-are : values ≡ all_binary choices && all_binary inputs
-      values-are = values-told ∙ rw (choices-are, inputs_are) refl
-
+    module _ (lists-right : not lists ≡ false) (values : Bool) (values-are : values ≡ all_binary choices && all_binary inputs) where
       after-18 : (rows : List Row) → c ≡ counts_of rows → asked rows ≡ first_refusal (from19 rows)
       after-18 rows e = after-17 rows ∙ list-yes 18 (value_lists_right rows T choices inputs) (from19 rows) (sym (lists-told rows e) ∙ not-false lists lists-right)
 
-      pub stops-19 : not values ≡ true → Planned (Stop Value)
+      pub stops-19 : not values ≡ true → Planned (Err Value)
       stops-19 h = stopped Value (λ rows e. sym (after-18 rows e ∙ list-no 18 (all_binary choices && all_binary inputs) (from20 rows) (sym values-are ∙ not-true values h)))
 
       module _ (values-right : not values ≡ false) (memory : Bool) (memory-told : MemoryTold memory) where
         after-19 : (rows : List Row) → c ≡ counts_of rows → asked rows ≡ first_refusal (from20 rows)
         after-19 rows e = after-18 rows e ∙ list-yes 19 (all_binary choices && all_binary inputs) (from20 rows) (sym values-are ∙ not-false values values-right)
 
-        pub stops-20 : not memory ≡ true → Planned (Stop Memory)
+        pub stops-20 : not memory ≡ true → Planned (Err Memory)
         stops-20 h = stopped Memory (λ rows e. sym (after-19 rows e ∙ list-no 19 (run_memory_right rows T result work) [] (sym (memory-told rows e) ∙ not-true memory h)))
 
-        pub goes : not memory ≡ false → Planned (Go n c.nodes c.inputs)
+        pub goes : not memory ≡ false → Planned (Ok (record { rows = n; nodes = c.nodes; inputs = c.inputs }))
         goes h =
             record {
               refusal = λ rows e. sym (after-19 rows e ∙ list-yes 20 (run_memory_right rows T result work) [] (sym (memory-told rows e) ∙ not-false memory h));
-              go = λ rows nodes ins e. go-parts e;
+              go = λ s e. (sym (ap (λ p. (sizes_in p).rows) e), (sym (ap (λ p. (sizes_in p).nodes) e), sym (ap (λ p. (sizes_in p).inputs) e)));
             }
           where
-            first : RunPlan → ℕ
-            first (Go a b d) = a
-            first (Stop q) = 0
-
-            second : RunPlan → ℕ
-            second (Go a b d) = b
-            second (Stop q) = 0
-
-            third : RunPlan → ℕ
-            third (Go a b d) = d
-            third (Stop q) = 0
-
-            go-parts : {rows nodes ins : ℕ} → Go n c.nodes c.inputs ≡ Go rows nodes ins → (rows ≡ n) × ((nodes ≡ c.nodes) × (ins ≡ c.inputs))
-            go-parts e = (sym (ap first e), (sym (ap second e), sym (ap third e)))
+            sizes_in : Result Sizes RunRefusal → Sizes
+            sizes_in (Ok s) = s
+            sizes_in (Err _) = record { rows = 0; nodes = 0; inputs = 0 }
 
 -- ---- all of Run's questions
 
-module _ (file : List ℕ) (T : ℕ) (choices inputs : List ℕ) (result work : ℕ) (a : Acceptance) (checked : Answered (file_refusal file) (netlist_of file) a) where
+module _ (file : List ℕ) (T : ℕ) (choices inputs : List ℕ) (result work : ℕ) (a : Result Accepted FileRefusal) (checked : Answered (file_refusal file) (netlist_of file) a) where
   abbrev later : List Refusal
   later = question 17 (leb T most_steps) ∷ from18 0 (counts_of (netlist_of file)) T choices inputs result work (netlist_of file)
 
-  pub planned-by : (n : ℕ) (c : code.Counts) → a ≡ Accepted n c → (plan : RunPlan) → StepsPlanned n (counts_in c) T choices inputs result work plan → RunPlanned file T choices inputs result work plan
+  pub planned-by : (y : Accepted) → a ≡ Ok y → (plan : Result Sizes RunRefusal) → StepsPlanned y.rows (counts_in y.counts) T choices inputs result work plan → RunPlanned file T choices inputs result work plan
   unfolding run_refusal steps_refusal
-  planned-by n c e plan P =
-      let k = accepted-counts file a checked n c e in
+  planned-by y e plan P =
+      let k = accepted-counts file a checked y e in
       record {
-        refusal = P.refusal (netlist_of file) k ∙ sym (file-passes file a checked n c e later);
-        go = λ rows nodes ins g. ((P.go rows nodes ins g).0 ∙ checked.count n c e, ((P.go rows nodes ins g).1.0 ∙ ap (λ (x : Counts). x.nodes) k, (P.go rows nodes ins g).1.1 ∙ ap (λ (x : Counts). x.inputs) k));
+        refusal = P.refusal (netlist_of file) k ∙ sym (file-passes file a checked y e later);
+        go = λ s g. ((P.go s g).0 ∙ checked.count y e, ((P.go s g).1.0 ∙ ap (λ (x : Counts). x.nodes) k, (P.go s g).1.1 ∙ ap (λ (x : Counts). x.inputs) k));
       }
 
-  pub planned-refused : (r : FileRefusal) → a ≡ Refused r → RunPlanned file T choices inputs result work (Stop (File r))
+  pub planned-refused : (r : FileRefusal) → a ≡ Err r → RunPlanned file T choices inputs result work (Err (File r))
   unfolding run_refusal
   planned-refused r e =
       record {
         refusal = sym (file-stops file a checked later r e);
-        go = λ rows nodes ins g. absurd (stop-not-go (File r) g);
+        go = λ s g. absurd (stop-not-go (File r) g);
       }

@@ -1,11 +1,9 @@
 -- `run::memory_right` answers question 20, by the counts.
 -- Assumes nothing.
-use Rattle.run.proofs.PlanLaws.{product-fits, memory-by}
-use borrow.Author.Rules.{rules}
+use Rattle.std.proofs.Common.{refl}
+use borrow.Author.Tests.{le-leb}
+use Rattle.run.proofs.PlanLaws.{memory-by}
 use Rattle.run.proofs.memory_right.Goals as goal
 
-pub overflow_mul-bytes : goal.overflow_mul-bytes
-overflow_mul-bytes c = search (product-fits, rules)
-
-pub returns : goal.returns
-returns c = search memory-by
+pub returns-then-bytes-res : goal.returns-then-bytes-res
+returns-then-bytes-res c = λ rows e. memory-by rows _ e c.args.steps _ c.args.res c.args.work _ c.row_work-least.ensures (rw (le-leb _ _ c.if-bytes-res.true) refl)

@@ -1,6 +1,6 @@
 -- `run::plan_steps` asks 17 to 20 in order, by the counts.
 -- Assumes nothing.
-use native.Mathlib.Omega.{arith}
+use Rattle.std.proofs.Common.{arith}
 use Rattle.blockfile.specs.CountCode.{counts_in}
 use Rattle.run.proofs.PlanLaws.{stops-17, stops-18, stops-19, stops-20, goes}
 use Rattle.run.proofs.plan_steps.Goals as goal
@@ -11,8 +11,8 @@ returns-then-steps-gt-MOST_STEPS c = stops-17 c.args.rows (counts_in c.args.coun
 pub returns-then-not-lists_right : goal.returns-then-not-lists_right
 returns-then-not-lists_right c = search stops-18
 
-pub returns-then-not-both : goal.returns-then-not-both
-returns-then-not-both c = search stops-19
+pub returns-then-not-values_right : goal.returns-then-not-values_right
+returns-then-not-values_right c = search stops-19
 
 pub returns-then-not-memory_right : goal.returns-then-not-memory_right
 returns-then-not-memory_right c = search stops-20
