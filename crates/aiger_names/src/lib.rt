@@ -127,6 +127,7 @@ fn fill_tree(
 }
 
 // The node of the window that has the variable; the window's end if none has.
+// By number: so has `found_in` (specs/Names.antt), and the tree's entry counts on from the start with no test of its own.
 fn find_node(work: &[u8], base: usize, window: Window, variable: u32) -> usize
     requires { WindowReady work.now base window }
     ensures { (result ≡ found_in work.now base window variable) × (result ≤ window.end) }

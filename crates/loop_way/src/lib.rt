@@ -15,6 +15,7 @@ use gate_rows::{Layout, Pairs};
 use netlist::{LARGE_WORK_BYTES, MOST_FILE_ROWS};
 
 // How many gates the way has, and which of them the last one names, counted from 0: there the loop starts. Both are 0 if there is no way.
+// No `Option`: `IsWay` (specs/Ways.antt) speaks of both numbers, and of no way by 0 gates.
 #[derive(Clone, Copy)]
 pub struct Way {
     pub count: usize,

@@ -15,6 +15,7 @@ struct Open {
 }
 
 // The child of the entry for the bit; 0 if it has none.
+// By number, as the field stands in memory: `child_at` (specs/Trees.antt) and `write_entry` have 0 for none.
 fn child_at(work: &[u8], base: usize, entry: usize, bit: usize) -> usize
     requires { (base + 8 * entry + 8 ≤ length work.now) × (bit < 2) }
     ensures { result ≡ child_at work.now base entry bit }
@@ -59,6 +60,7 @@ fn find_end(work: &[u8], base: usize, count: usize, number: u32) -> Result<usize
 }
 
 // The entry of the number; `count` if there is none.
+// By number: so has `entry_of` (specs/Trees.antt), by which `found_in` of `aiger_names` counts on from a window's start.
 pub fn find_entry(work: &[u8], base: usize, count: usize, number: u32) -> usize
     requires { Tree work.now base count }
     ensures { result ≡ entry_of work.now base count number }
