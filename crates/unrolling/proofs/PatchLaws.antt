@@ -64,9 +64,6 @@ next-stands s a l v j f h t (suc (suc (suc zero))) b =
     ap (byte_at (sets f (row_offset j + 2) (u16_bytes v))) e ∙ sets-at (u16_bytes v) f (row_offset j + 2) 1 (omega arith) (omega arith)
 next-stands s a l v j f h t (suc (suc (suc (suc d)))) b = (next-kept v j f).after (row_offset j + suc (suc (suc (suc d)))) (omega arith) ∙ t (suc (suc (suc (suc d)))) b
 
-pub next-in-range : (j offset next : ℕ) (result : List ℕ) → offset ≡ row_offset j → byte_at result offset ≡ 2 → next ≡ u16_at result (offset + 2) → NextFits j result → next / 2 < most_original_rows
-next-in-range j offset next result e h f g = rw (f, e) (g (sym (ap (byte_at result) e) ∙ h))
-
 module _ (work : List ℕ) (k j offset : ℕ) (result : List ℕ) (e : offset ≡ row_offset j) where
   module _ (h : byte_at result offset ≡ 2) (next image : ℕ) (result' : List ℕ) (f : next ≡ u16_at result (offset + 2)) (g : (n : ℕ) → next / 2 < n → image ≡ image_literal (images_in work k n) next)
       (i : result' ≡ sets result (offset + 2) (u16_bytes image)) (jb : j < most_folded_rows) (room : fold_result_bytes ≤ length result) where
@@ -102,19 +99,7 @@ module _ (work : List ℕ) (k j offset : ℕ) (result : List ℕ) (e : offset �
 
 -- ---- the loop
 
-pub patch-start : (work : List ℕ) (k : ℕ) (result : List ℕ) → NextsPatched work k 0 0 result result
-patch-start work k result = record { patched = λ n few x r a b nb s. absurd (omega arith); kept = kept-none (row_offset 0) (row_offset 0) result }
-
 module _ (work : List ℕ) (k j : ℕ) (result₀ result : List ℕ) (P : NextsPatched work k 0 j result₀ result) where
-  -- Row j is still as it was.
-  pub patch-fits : (n : ℕ) → ((i : ℕ) → i < n → NextFits i result₀) → j < n → NextFits j result
-  patch-fits n g h =
-      let f = g j h in
-      let a = P.kept.after (row_offset j) (omega arith) in
-      let b = P.kept.after (row_offset j + 2) (omega arith) in
-      let c = P.kept.after (row_offset j + 2 + 1) (omega arith) in
-      rw (a, b, c) f
-
   pub patch-more : (result' : List ℕ) → NextsPatched work k j (suc j) result result' → NextsPatched work k 0 (j + 1) result₀ result'
   patch-more result' Q =
       let o = row_next j (suc j) (omega arith) in
@@ -127,6 +112,3 @@ module _ (work : List ℕ) (k j : ℕ) (result₀ result : List ℕ) (P : NextsP
             subst (λ (z : ℕ). RowStands (patch_next (images_in work k n) r) z result') (sym q) (Q.patched n few j r (omega arith) (omega arith) nb (λ d h. P.kept.after (row_offset j + d) (omega arith) ∙ t d h)));
         kept = kept-join (row_offset 0) (row_offset (suc j)) result₀ result result' P.kept Q.kept (omega arith) (omega arith) (omega arith) (omega arith);
       }
-
-  pub patch-done : (n : ℕ) → j ≤ n → n ≤ j → NextsPatched work k 0 n result₀ result
-  patch-done n a b = let q : j ≡ n = omega arith in subst (λ (z : ℕ). NextsPatched work k 0 z result₀ result) q P

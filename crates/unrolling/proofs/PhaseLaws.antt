@@ -1,6 +1,6 @@
 -- The phases: an image is stored, row by row and phase by phase, and the rows made and the images stand as the model's unrolling has them.
 -- Assumes nothing.
-use Prim.Native.Nat.{ℕ, zero, suc, ◌+◌, ◌*◌, ◌-◌, ◌<◌, ◌≤◌, ◌^◌}
+use Prim.Native.Nat.{ℕ, zero, suc, ◌+◌, ◌*◌, ◌-◌, ◌<◌, ◌≤◌}
 use mathlib.Core.Path.{◌≡◌, refl, sym, ap, ◌∙◌, subst, fun_ext}
 use mathlib.Core.List.{List, [], ◌∷◌, ◌++◌}
 use native.Mathlib.Omega.{arith}
@@ -24,10 +24,9 @@ use Rattle.blockfile.proofs.RowCodeLaws.{kind-known}
 use Rattle.blockfile.proofs.StandLaws.{row_room, stand-more}
 use Rattle.blockfile.proofs.AppendLaws.{append-one}
 use Rattle.blockfile.specs.Ready.{Ready}
-use Rattle.gates.specs.declared.MadeRow.{MadeRow}
 use Rattle.gates.specs.declared.MadeImage.{MadeImage}
-use Rattle.gates.specs.declared.MadeImage.TheVariants.{Existing, NewRow}
-use Rattle.gates.specs.ImageCode.{image_code, made_fields}
+use Rattle.gates.specs.declared.MadeImage.TheVariants.{Existing}
+use Rattle.gates.specs.ImageCode.{image_code}
 use Rattle.fold_memory.specs.WorkMap.{known_offset, known_in}
 use Rattle.row_images.specs.ImageMap.{image_offset, images_in, no_literal, RowToFold}
 use Rattle.unrolling.specs.UnrollMap.{Room, images_end, literal_made, ImageStored, Stored, unrolled_to, UnderWay}
@@ -35,14 +34,6 @@ use Rattle.row_images.proofs.ImageLaws.{images-kept, images-more}
 use Rattle.unrolling.proofs.UnrollFacts.{image-first, made-few}
 
 -- ---- one image
-
-module _ (image : MadeImage) (m p offset : ℕ) (result work work' : List ℕ) (q : p ≡ offset) where
-  pub stored-existing : (l : ℕ) → image ≡ Existing l → l < 2 ^ 16 → work' ≡ sets work p (u16_bytes l) → ImageStored image m offset result work result work' m
-  stored-existing l e h f = rw (e, ← q) record { rows = refl; literal = f; small = h; count = omega arith }
-
-  pub stored-new : (x : MadeRow) (b n : ℕ) (result' : List ℕ) → image ≡ NewRow x b → m < most_folded_rows → b < 2 ^ 8 → work' ≡ sets work p (u16_bytes (2 * m + b)) → (result' ≡ sets result (row_offset m) (field_bytes (made_fields x))) × (n ≡ m + 1)
-      → ImageStored image m offset result work result' work' n
-  stored-new x b n result' e h k g t = rw (e, ← q) record { rows = t.0; literal = g; small = omega arith; count = t.1 }
 
 -- Of `work` only the literal's bytes change.
 literal-frame : (image : MadeImage) (m offset r : ℕ) (result work result' work' : List ℕ) → ImageStored image m offset result work result' work' r → KeptOutside offset (offset + 2) work work'
@@ -136,9 +127,6 @@ pub going_start : (f : List ℕ) (k i : ℕ) (result work : List ℕ) (m : ℕ) 
 going_start f k i result work m U = record { same-result = refl; kept = kept-none 0 images_end work; under = U }
 
 module _ (f : List ℕ) (result₀ work₀ : List ℕ) (k i : ℕ) (result work : List ℕ) (m : ℕ) (G : Going f result₀ work₀ k i result work m) where
-  pub going-room : Room result₀ work₀ → Room result work
-  going-room R = record { result-room = omega (arith, R.result-room, G.same-result); work-room = omega (arith, R.work-room, G.kept.long) }
-
   pub going-under : UnderWay (known_in work) (netlist_of f) k i result work m
   going-under = subst (λ (z : ℕ → ℕ → Ternary). UnderWay z (netlist_of f) k i result work m) (sym (known_same work₀ work G.kept)) G.under
 

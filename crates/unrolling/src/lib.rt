@@ -1,7 +1,7 @@
 // The unrolling into N phases, before the cone of influence is taken: the new rows stand in `result` where a file has them, and the image literal of each original row in each phase in `work`.
 #![tactic(auto)]
 
-ghost use Rattle.std.specs.Prelude.{◌≡◌, ℕ, ◌<◌, ◌≤◌, min, length};
+ghost use Rattle.std.specs.Prelude.{◌≡◌, ℕ, ◌<◌, ◌≤◌, length};
 ghost use Rattle.memory.specs.Frames.{KeptOutside};
 ghost use Rattle.ternary.specs.Ternary.{Ternary};
 ghost use Rattle.netlist.specs.Limits.{most_phases};
@@ -17,12 +17,6 @@ pub mod nexts;
 pub mod outputs;
 pub mod phases;
 
-fn smaller(a: usize, b: usize) -> usize
-    ensures { result ≡ min a b }
-{
-    if a < b { a } else { b }
-}
-
 // The unrolled netlist of `phases` phases; answers its row count. Registers are made in phase 0 only, so none stands behind the first `rows` rows.
 pub fn unroll(file: &[u8], rows: usize, phases: usize, res: &mut [u8], work: &mut [u8]) -> usize
     requires ready { Ready FoldableRows file.now (length (netlist_of file.now)) × (rows ≡ length (netlist_of file.now)) × (1 ≤ phases) × (phases ≤ most_phases) }
@@ -32,7 +26,7 @@ pub fn unroll(file: &[u8], rows: usize, phases: usize, res: &mut [u8], work: &mu
 {
     let made = phases::unroll_phases(file, rows, phases, res, work);
     let last = phases - 1;
-    let patched = smaller(made, rows);
+    let patched = made.min(rows);
     nexts::patch_rows(res, work, last, patched);
     outputs::output_phases(file, rows, phases, res, work, made)
 }

@@ -25,9 +25,7 @@ pub fn patch_rows(res: &mut [u8], work: &[u8], k: usize, n: usize)
     requires room { Room res.old work.now }
     ensures { NextsPatched work.now k 0 n res.old res.new }
 {
-    let mut j = 0;
-    'registers: while j < n {
+    for j in 0..n {
         patch_row(res, work, k, j);
-        j += 1;
     }
 }

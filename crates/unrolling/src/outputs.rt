@@ -50,10 +50,8 @@ fn output_phase(
     ensures { Appended (outputs_in (netlist_of file.now) work.now k) res.old res.new count result }
 {
     let mut m = count;
-    let mut i = 0;
-    'rows: while i < rows {
+    for i in 0..rows {
         m = output_row(file, res, work, k, i, m);
-        i += 1;
     }
     m
 }
@@ -73,10 +71,8 @@ pub fn output_phases(
     ensures { Appended (join_below phases (outputs_in (netlist_of file.now) work.now)) res.old res.new count result }
 {
     let mut m = count;
-    let mut k = 0;
-    'phases: while k < phases {
+    for k in 0..phases {
         m = output_phase(file, rows, res, work, k, m);
-        k += 1;
     }
     m
 }

@@ -32,15 +32,12 @@ fn store_image(
             m
         }
         MadeImage::NewRow(x, complemented) => {
-            let a = x.a as usize;
-            let b = x.b as usize;
-            let c = x.c as usize;
             let fields = Fields {
                 kind: x.kind,
                 reset: x.reset,
-                a: a,
-                b: b,
-                c: c,
+                a: x.a as usize,
+                b: x.b as usize,
+                c: x.c as usize,
             };
             let count = blockfile::append::append_row(res, m, fields);
             let literal = 2 * m + complemented as usize;
@@ -76,10 +73,8 @@ fn unroll_phase(
     ensures { UnderWay (known_in work.old) (netlist_of file.now) (suc k) 0 res.new work.new result × KeptOutside 0 images_end work.old work.new }
 {
     let mut m = count;
-    let mut i = 0;
-    'rows: while i < rows {
+    for i in 0..rows {
         m = unroll_row(file, res, work, k, i, m);
-        i += 1;
     }
     m
 }
@@ -104,10 +99,8 @@ pub fn unroll_phases(
         c: 0,
     };
     let mut m = blockfile::append::append_row(res, 0, first);
-    let mut k = 0;
-    'phases: while k < phases {
+    for k in 0..phases {
         m = unroll_phase(file, rows, res, work, k, m);
-        k += 1;
     }
     m
 }

@@ -4,11 +4,11 @@ use borrow.Author.Rules.{rules}
 use Rattle.unrolling.proofs.UnrolledWhole.{outputs-fit, patched-few, patched-fit, unroll-count, unroll-stands}
 use Rattle.unrolling.proofs.unroll.Goals as goal
 
-pub patch_rows-requires : goal.patch_rows-requires
-patch_rows-requires c = record { k_lt_most_phases = (search rules, search patched-few, search patched-fit); room = search rules }
+pub patch_rows-requires-clause-k_lt_most_phases : goal.patch_rows-requires-clause-k_lt_most_phases
+patch_rows-requires-clause-k_lt_most_phases c = (search rules, search patched-few, search patched-fit)
 
-pub output_phases-requires : goal.output_phases-requires
-output_phases-requires c = record { ready = (search rules, search rules, search rules); room = search rules; work_bound = search outputs-fit }
+pub output_phases-requires-clause-work_bound : goal.output_phases-requires-clause-work_bound
+output_phases-requires-clause-work_bound c = search outputs-fit
 
-pub returns : goal.returns
-returns c = record { by_index = λ clock agree. (search unroll-count, search unroll-stands); kept_outside = search rules }
+pub returns-clause-by_index : goal.returns-clause-by_index
+returns-clause-by_index c = λ clock agree. (search unroll-count, search unroll-stands)

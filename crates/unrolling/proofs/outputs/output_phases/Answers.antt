@@ -1,16 +1,11 @@
-use borrow.Author.Rules.{rules}
-use Rattle.blockfile.proofs.AppendLaws.{append-none, join_more, join-all}
+-- The steps of the loop: the outputs of one phase more are appended.
+-- Assumes nothing.
+use Rattle.blockfile.proofs.AppendLaws.{join_more}
 use Rattle.unrolling.proofs.OutputLaws.{phase-outputs-fit}
 use Rattle.unrolling.proofs.outputs.output_phases.Goals as goal
 
-pub phases-init : goal.phases-init
-phases-init c = search (append-none, rules)
+pub output_phase-m-requires-clause-k_bound : goal.output_phase-m-requires-clause-k_bound
+output_phase-m-requires-clause-k_bound c = search phase-outputs-fit
 
-pub output_phase-m-requires : goal.output_phase-m-requires
-output_phase-m-requires c = record { ready = (search rules, search rules, search rules); room = search rules; k_bound = search phase-outputs-fit }
-
-pub phases-preserved : goal.phases-preserved
-phases-preserved c = search (join_more, rules)
-
-pub returns : goal.returns
-returns c = search (join-all, rules)
+pub loop-k-preserved : goal.loop-k-preserved
+loop-k-preserved c = search join_more
