@@ -1,17 +1,13 @@
 // What is wrong with a block: refusals 2 to 5.
 use crate::outcome::say;
 use listing::rows::last_block;
-use text::bytes::{get, least, wide};
+use text::bytes::{first, get, least, rest, wide};
 use text::out::{three, two};
 use text::streams::Streams;
 
 // The block's bytes.
-fn block_at<'a>(file: &'a [u8], block: usize) -> &'a [u8] {
-    let number = least(block, 512);
-    let start = least(512 * number, file.len());
-    let rest = file.len() - start;
-    let end = start + least(512, rest);
-    &file[start..end]
+fn block_at(file: &[u8], block: usize) -> &[u8] {
+    first(rest(file, 512 * least(block, 512)), 512)
 }
 
 // The sum of the block's words; 0 if it is not whole.
@@ -24,16 +20,10 @@ fn sum_of(block: &[u8]) -> usize {
 
 // Whether a netlist file may begin with these bytes: mark, number and sum of the first block are right.
 pub fn is_first_block(bytes: &[u8]) -> bool {
-    if get(bytes, 1) != 0 {
-        return false;
-    }
-    if get(bytes, 3) != 0 {
-        return false;
-    }
-    match get(bytes, 0) {
-        1 | 2 => sum_of(bytes) == 4294967295,
-        _ => false,
-    }
+    matches!(get(bytes, 0), 1 | 2)
+        && get(bytes, 1) == 0
+        && get(bytes, 3) == 0
+        && sum_of(bytes) == 4294967295
 }
 
 // 2
@@ -88,14 +78,13 @@ fn say_row_count(rt: &impl Streams, block: &[u8], number: usize, mark: usize) {
 
 // The first byte of the unused places that is not 0.
 fn first_used(block: &[u8]) -> usize {
-    let mut at = 4 + 8 * wide(get(block, 2));
-    'bytes: while at < block.len() {
+    let start = 4 + 8 * wide(get(block, 2));
+    for at in start..block.len() {
         if block[at] != 0 {
             return at;
         }
-        at += 1;
     }
-    at
+    start.max(block.len())
 }
 
 // 5

@@ -118,8 +118,7 @@ fn say_field_cause(rt: &impl Streams, row: usize, fields: Fields) {
 
 // The phase of an input or an output; 0 for others.
 fn phase_in(fields: Fields) -> usize {
-    let kind = fields.kind;
-    match kind {
+    match fields.kind {
         1 => fields.b,
         6 => fields.c,
         _ => 0,
@@ -128,30 +127,20 @@ fn phase_in(fields: Fields) -> usize {
 
 // The label of an input, a register or an output.
 fn label_in(fields: Fields) -> usize {
-    let kind = fields.kind;
-    if kind == 1 { fields.a } else { fields.b }
+    if fields.kind == 1 { fields.a } else { fields.b }
 }
 
 // Whether two rows share kind, label and phase.
 fn same_name(x: Fields, y: Fields) -> bool {
-    if x.kind != y.kind {
-        return false;
-    }
-    if label_in(x) != label_in(y) {
-        return false;
-    }
-    phase_in(x) == phase_in(y)
+    x.kind == y.kind && label_in(x) == label_in(y) && phase_in(x) == phase_in(y)
 }
 
 // The first row that has the name of this one.
 fn first_named(file: &[u8], fields: Fields, row: usize) -> usize {
-    let mut earlier = 0;
-    'rows: while earlier < row {
-        let other = fields_of(file, earlier);
-        if same_name(other, fields) {
+    for earlier in 0..row {
+        if same_name(fields_of(file, earlier), fields) {
             return earlier;
         }
-        earlier += 1;
     }
     row
 }
@@ -180,11 +169,7 @@ fn say_label_cause(rt: &impl Streams, file: &[u8], row: usize, fields: Fields) {
 // Whether a literal names a row that is no output.
 fn names_node(file: &[u8], literal: usize) -> bool {
     let named = literal / 2;
-    if row_count(file) <= named {
-        return false;
-    }
-    let fields = fields_of(file, named);
-    fields.kind != 6
+    named < row_count(file) && fields_of(file, named).kind != 6
 }
 
 // A gate's first operand that names no node; its last one if there is none.
@@ -220,23 +205,15 @@ fn late_operand(fields: Fields, row: usize) -> usize {
 
 // Whether a row is a gate that names itself.
 fn names_itself(fields: Fields, row: usize) -> bool {
-    let kind = fields.kind;
-    match kind {
-        3..=5 => late_operand(fields, row) / 2 == row,
-        _ => false,
-    }
+    matches!(fields.kind, 3..=5) && late_operand(fields, row) / 2 == row
 }
 
 // The first gate from `row` on that names itself; `row` if there is none.
 pub fn first_own(file: &[u8], row: usize) -> usize {
-    let rows = row_count(file);
-    let mut later = row;
-    'rows: while later < rows {
-        let fields = fields_of(file, later);
-        if names_itself(fields, later) {
+    for later in row..row_count(file) {
+        if names_itself(fields_of(file, later), later) {
             return later;
         }
-        later += 1;
     }
     row
 }
@@ -293,8 +270,7 @@ fn say_gate_cause(rt: &impl Streams, file: &[u8], row: usize, fields: Fields) {
 
 // The first literal that is wrong.
 fn say_literal_cause(rt: &impl Streams, file: &[u8], row: usize, fields: Fields) {
-    let kind = fields.kind;
-    match kind {
+    match fields.kind {
         3..=5 => say_gate_cause(rt, file, row, fields),
         _ => say_named_row(rt, file, row, fields.a),
     }

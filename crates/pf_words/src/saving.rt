@@ -1,13 +1,13 @@
 // A result kept in a file. The script opens two descriptors for it: what stands at the result's name, or nothing if there is no file yet; and the file that then takes its place, which is empty. Both are opened again by their names here. A result for standard output goes there itself, behind what others have written.
 use crate::block_causes::is_first_block;
 use crate::calls::Call;
-use crate::outcome::{OUTPUT, Outcome, fail_at, fail_by_cause, outcome_if};
+use crate::outcome::{Outcome, fail_at, fail_by_cause, outcome_if};
 use std::fs::{Files, OpenFile, OpenOptions};
 use std::io::Write;
 use std::{fs, io};
-use text::both;
 use text::bytes::{first, same};
-use text::files::{Loaded, load};
+use text::files::load;
+use text::streams::OUTPUT;
 
 const OLD: &[u8] = b"/proc/self/fd/5";
 
@@ -48,36 +48,31 @@ fn save_new(rt: &Call, path: &[u8], bytes: &[u8]) -> Outcome {
             }
             _ => true,
         };
-        return outcome_if(rt, both(written, kept), Outcome::Done);
+        return outcome_if(rt, written && kept);
     }
     match write_new(&rt.host, bytes) {
-        Ok(()) => Outcome::Done,
-        Err(cause) => fail_by_cause(rt, path, cause),
+        Ok(()) => Ok(()),
+        Err(cause) => Err(fail_by_cause(rt, path, cause)),
     }
 }
 
 // Only an empty file, or one that begins as a netlist file does, is replaced.
 fn save_over(rt: &Call, path: &[u8], old: &[u8], bytes: &[u8]) -> Outcome {
-    if old.len() == 0 {
+    if old.is_empty() || is_first_block(old) {
         return save_new(rt, path, bytes);
     }
-    if is_first_block(old) {
-        save_new(rt, path, bytes)
-    } else {
-        fail_at(
-            rt,
-            path,
-            b"is no netlist file, and is not replaced by one\n",
-        )
-    }
+    Err(fail_at(
+        rt,
+        path,
+        b"is no netlist file, and is not replaced by one\n",
+    ))
 }
 
 // The bytes become the file at `path`, if what stands there may be replaced.
 pub fn save(rt: &Call, path: &[u8], bytes: &[u8]) -> Outcome {
     let mut room = [0u8; 512];
     match load(&rt.host, OLD, &mut room) {
-        Loaded::Whole(size) => save_over(rt, path, first(&room, size), bytes),
-        Loaded::Longer(size) => save_over(rt, path, first(&room, size), bytes),
-        Loaded::Failed(cause) => fail_by_cause(rt, path, cause),
+        Ok(loaded) => save_over(rt, path, first(&room, loaded.size), bytes),
+        Err(cause) => Err(fail_by_cause(rt, path, cause)),
     }
 }

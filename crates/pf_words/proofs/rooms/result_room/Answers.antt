@@ -1,8 +1,0 @@
--- `result_room` meets its contract.
--- Assumes nothing.
-use Rattle.std.proofs.Common.{ℕ, sym}
-use Rattle.std.proofs.Math.ListN.{length-replicate}
-use Rattle.pf_words.proofs.rooms.result_room.Goals as goal
-
-pub returns : goal.returns
-returns c = sym (length-replicate {A = ℕ} 262144 0)
