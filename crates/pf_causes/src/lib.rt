@@ -5,15 +5,13 @@ pub mod loop_causes;
 pub mod text_causes;
 pub mod values;
 
-use accept::Acceptance;
 use c_answers::{PfCounts, PfRefusal};
 use listing::rows::{fields_of, last_block, row_count};
 use loop_causes::say_loop;
 use pf_words::block_causes::say_block_cause;
-use pf_words::outcome::{Outcome, say, say_text, say_where, tell_refusal};
+use pf_words::outcome::{CallRefusal, fail_word, say, say_text, say_where, tell_refusal};
 use pf_words::row_causes::say_row_cause;
-use text::both;
-use text::bytes::{first, get, same};
+use text::bytes::get;
 use text::out::{one, two};
 use text::streams::Streams;
 use text_causes::{encoding_of, is_text_byte, say_encoding};
@@ -44,8 +42,8 @@ fn say_many_rows(rt: &impl Streams, file: &[u8]) {
 // How many registers an accepted file has.
 fn register_count(file: &[u8]) -> usize {
     match accept::accept(file) {
-        Acceptance::Accepted { rows: _, counts } => counts.registers,
-        Acceptance::Refused(_) => 0,
+        Ok(accepted) => accepted.counts.registers,
+        Err(_) => 0,
     }
 }
 
@@ -62,8 +60,7 @@ fn say_many_registers(rt: &impl Streams, file: &[u8]) {
 // The phase of an input or an output.
 fn phase_of(file: &[u8], row: usize) -> usize {
     let fields = fields_of(file, row);
-    let kind = fields.kind;
-    if kind == 1 { fields.b } else { fields.c }
+    if fields.kind == 1 { fields.b } else { fields.c }
 }
 
 // 13
@@ -136,19 +133,17 @@ pub fn say_cause(rt: &impl Streams, file: &[u8], number: u32, place: usize, word
 
 // Whether the first bytes are those of a text; a netlist file begins with a byte 1 or 2.
 fn looks_like_text(file: &[u8]) -> bool {
-    let start = both(is_text_byte(get(file, 0)), is_text_byte(get(file, 1)));
-    let more = both(is_text_byte(get(file, 2)), is_text_byte(get(file, 3)));
-    both(start, more)
+    (0..4).all(|at| is_text_byte(get(file, at)))
 }
 
 // Of what kind of text a file looks, and what makes a netlist file of that.
 fn say_kind_of_text(rt: &impl Streams, file: &[u8]) {
-    if same(first(file, 4), b"aag ") {
+    if file.starts_with(b"aag ") {
         say_text(
             rt,
             b"; this is an AIGER text, of which pf import makes a netlist file",
         );
-    } else if same(first(file, 4), b"aig ") {
+    } else if file.starts_with(b"aig ") {
         say_text(
             rt,
             b"; this is binary AIGER: aigtoaig makes a text of it, and pf import of that a netlist file",
@@ -181,14 +176,14 @@ pub fn refuse(
     file: &[u8],
     refusal: PfRefusal,
     word: &[u8],
-) -> Outcome {
-    let outcome = tell_refusal(rt, refusal);
+) -> CallRefusal {
+    let refused = tell_refusal(rt, refusal);
     let place = refusal.place as usize;
     say_where(rt, path, line);
     say_cause(rt, file, refusal.number, place, word);
     say_text_remark(rt, file, refusal.number);
     say_text(rt, b"\n");
-    outcome
+    refused
 }
 
 // The refusal that stands in an answer of Count.
@@ -199,10 +194,23 @@ pub fn count_refusal(counts: PfCounts) -> PfRefusal {
     }
 }
 
-// What a file is refused for whose gates may stand in any order; zeros if nothing.
-pub fn unordered_refusal(file: &[u8]) -> PfRefusal {
+// What a file is refused for whose gates may stand in any order.
+pub fn unordered_refusal(file: &[u8]) -> Option<PfRefusal> {
     match accept::accept_unordered(file) {
-        Acceptance::Accepted { rows: _, counts: _ } => c_answers::told(0, 0),
-        Acceptance::Refused(refusal) => c_answers::file_numbers(refusal),
+        Ok(_) => None,
+        Err(refusal) => Some(c_answers::refusal_numbers(refusal)),
+    }
+}
+
+// The number that a word of the call is; else that it is none is told, with what stands before the word and after it.
+pub fn number_of(
+    rt: &impl Streams,
+    before: &[u8],
+    word: &[u8],
+    after: &[u8],
+) -> Result<u32, CallRefusal> {
+    match text::numbers::read(word) {
+        Some(number) => Ok(number),
+        None => Err(fail_word(rt, before, word, after)),
     }
 }

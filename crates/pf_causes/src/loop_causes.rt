@@ -21,25 +21,23 @@ fn row_in(list: &[u8], index: usize) -> usize {
 
 // What a gate is named by: its row, or its literal in an AIGER text that is not empty.
 fn name_of(text: &[u8], row: usize) -> usize {
-    if text.len() == 0 {
+    if text.is_empty() {
         return row;
     }
-    let gate = aiger_faults::find_gate(text, row);
-    gate.literal as usize
+    match aiger_faults::find_gate(text, row) {
+        Some(gate) => gate.literal as usize,
+        None => 0,
+    }
 }
 
 // The gates in the slots from `from` on, up to `end`; of more than `most` the first ones.
 fn say_gates(rt: &impl Streams, text: &[u8], list: &[u8], from: usize, end: usize, most: usize) {
-    let mut at = from;
-    let mut left = most;
-    'gates: while at < end {
-        if left == 0 {
+    for at in from..end {
+        if most <= at - from {
             say_text(rt, b"..., ");
             return;
         }
         say(rt, b"#, ", one(name_of(text, row_in(list, at))));
-        at += 1;
-        left -= 1;
     }
 }
 

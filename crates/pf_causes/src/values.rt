@@ -3,26 +3,30 @@ use crate::text_causes::{Encoding, encoding_of, say_encoding};
 use c_answers::{PfCounts, PfRefusal};
 use pf_words::calls::Call;
 use pf_words::outcome::{
-    Outcome, fail_at, fail_by_cause, say, say_text, say_where, say_word, tell_refusal,
+    CallRefusal, fail_at, fail_by_cause, say, say_text, say_where, say_word, tell_refusal,
 };
 use pf_words::rooms::work_room;
-use run_answers::RunAnswer;
 use text::bytes::{first, get, is_blank, rest};
-use text::files::Loaded;
 use text::out::{Out, one, put_byte, two};
 use text::streams::Streams;
 
 // ---- read
 
-// What is read of a text of values: how many, the line that is read, and whether the rest of it is a remark; and of the first byte that is no value its line, which of the values it is, and the byte. Lines are counted from 1, and 0 is none.
+// A byte that is no value: its line, counted from 1, which of the values it is, counted from 0, and the byte.
+#[derive(Clone, Copy)]
+struct NoValue {
+    line: usize,
+    index: usize,
+    byte: u8,
+}
+
+// What is read of a text of values: how many, the line that is read, counted from 1, whether the rest of it is a remark, and the first byte that is no value.
 #[derive(Clone, Copy)]
 pub struct Values {
     pub count: usize,
     line: usize,
     remark: bool,
-    wrong_line: usize,
-    wrong: usize,
-    byte: u8,
+    wrong: Option<NoValue>,
 }
 
 // The value of a byte of the text; any other than 0 and 1 is none.
@@ -36,38 +40,28 @@ fn value_of(byte: u8) -> u8 {
 
 // One value more; the first that is none is remembered.
 fn with_value(values: Values, value: u8, byte: u8) -> Values {
-    let count = std::num::wrapping_add_usize(values.count, 1);
-    let keeps = if value <= 1 {
-        true
+    let wrong = if value <= 1 {
+        None
     } else {
-        values.wrong_line != 0
+        Some(NoValue {
+            line: values.line,
+            index: values.count,
+            byte,
+        })
     };
-    let wrong_line = if keeps {
-        values.wrong_line
-    } else {
-        values.line
-    };
-    let wrong = if keeps { values.wrong } else { values.count };
-    let seen = if keeps { values.byte } else { byte };
     Values {
-        count: count,
-        line: values.line,
-        remark: values.remark,
-        wrong_line: wrong_line,
-        wrong: wrong,
-        byte: seen,
+        count: values.count.wrapping_add(1),
+        wrong: values.wrong.or(wrong),
+        ..values
     }
 }
 
 // The same values, on this line, in a remark or not.
 fn at_line(values: Values, line: usize, remark: bool) -> Values {
     Values {
-        count: values.count,
-        line: line,
-        remark: remark,
-        wrong_line: values.wrong_line,
-        wrong: values.wrong,
-        byte: values.byte,
+        line,
+        remark,
+        ..values
     }
 }
 
@@ -85,7 +79,7 @@ fn take_value(bytes: &mut [u8], values: Values, byte: u8) -> Values {
 fn take_byte(bytes: &mut [u8], values: Values, byte: u8) -> Values {
     let line = values.line;
     if byte == b'\n' {
-        return at_line(values, std::num::wrapping_add_usize(line, 1), false);
+        return at_line(values, line.wrapping_add(1), false);
     }
     if values.remark {
         return values;
@@ -102,42 +96,31 @@ fn read_values(bytes: &mut [u8], size: usize) -> Values {
         count: 0,
         line: 1,
         remark: false,
-        wrong_line: 0,
-        wrong: 0,
-        byte: 0,
+        wrong: None,
     };
-    let mut i = 0;
-    'bytes: while i < size {
+    // By index: a value takes the place of a byte that was read.
+    for i in 0..size {
         let byte = get(bytes, i);
         values = take_byte(bytes, values, byte);
-        i += 1;
     }
     values
 }
 
-// The values that a text gives, and how it is written; or that it cannot be read, which is told.
-#[derive(Clone, Copy)]
-pub enum Given {
-    Values(Values, Encoding),
-    None,
-}
-
-// The values of the text at `source`, at the start of the room.
-pub fn load_values(rt: &Call, source: &[u8], room: &mut [u8]) -> Given {
-    match text::files::load(&rt.host, source, room) {
-        Loaded::Whole(size) => {
-            let encoding = encoding_of(first(room, size));
-            Given::Values(read_values(room, size), encoding)
-        }
-        Loaded::Longer(_) => {
-            fail_at(rt, source, b"longer than 1048576 bytes\n");
-            Given::None
-        }
-        Loaded::Failed(cause) => {
-            fail_by_cause(rt, source, cause);
-            Given::None
-        }
+// The values of the text at `source`, at the start of the room, and how the text is written; or it cannot be read, which is told.
+pub fn load_values(
+    rt: &Call,
+    source: &[u8],
+    room: &mut [u8],
+) -> Result<(Values, Encoding), CallRefusal> {
+    let loaded = match text::files::load(&rt.host, source, room) {
+        Ok(loaded) => loaded,
+        Err(cause) => return Err(fail_by_cause(rt, source, cause)),
+    };
+    if loaded.longer {
+        return Err(fail_at(rt, source, b"longer than 1048576 bytes\n"));
     }
+    let encoding = encoding_of(first(room, loaded.size));
+    Ok((read_values(room, loaded.size), encoding))
 }
 
 // ---- refused
@@ -159,11 +142,10 @@ fn say_lists(rt: &impl Streams, sentence: &[u8], asked: Asked, count: usize) {
     say(rt, sentence, [count, unknown, inputs, times, 0, 0]);
 }
 
-// The first value that is none.
-fn say_value(rt: &impl Streams, values: Values) {
-    let seen = [values.byte; 1];
-    say(rt, b"value #, counted from 0, is ", one(values.wrong));
-    say_word(rt, &seen);
+// A value that is none.
+fn say_value(rt: &impl Streams, wrong: NoValue) {
+    say(rt, b"value #, counted from 0, is ", one(wrong.index));
+    say_word(rt, &[wrong.byte]);
     say_text(rt, b", and should be 0 or 1");
 }
 
@@ -176,18 +158,20 @@ fn say_values_cause(
     asked: Asked,
     values: Values,
 ) {
-    let line = if lists { 0 } else { values.wrong_line };
-    let encoding = asked.encoding;
+    let line = match values.wrong {
+        Some(wrong) if !lists => wrong.line,
+        _ => 0,
+    };
     say_where(rt, source, line);
-    if say_encoding(rt, b"", encoding) {
+    if say_encoding(rt, b"", asked.encoding) {
         return;
     }
     if lists {
         say_lists(rt, sentence, asked, values.count);
-    } else {
-        say_value(rt, values);
+    } else if let Some(wrong) = values.wrong {
+        say_value(rt, wrong);
     }
-    if values.byte == b',' {
+    if matches!(values.wrong, Some(NoValue { byte: b',', .. })) {
         say_text(
             rt,
             b"; a comma counts as a value: values are parted by blanks, or by nothing",
@@ -204,16 +188,21 @@ pub fn refuse_values(
     sentence: &[u8],
     asked: Asked,
     values: Values,
-) -> Outcome {
-    let outcome = tell_refusal(rt, refusal);
+) -> CallRefusal {
+    let refused = tell_refusal(rt, refusal);
     say_values_cause(rt, source, lists, sentence, asked, values);
     say_text(rt, b"\n");
-    outcome
+    refused
 }
 
 // A run is refused for its memory, with 20.
-pub fn refuse_memory(rt: &impl Streams, refusal: PfRefusal, path: &[u8], asked: Asked) -> Outcome {
-    let outcome = tell_refusal(rt, refusal);
+pub fn refuse_memory(
+    rt: &impl Streams,
+    refusal: PfRefusal,
+    path: &[u8],
+    asked: Asked,
+) -> CallRefusal {
+    let refused = tell_refusal(rt, refusal);
     let counts = asked.counts;
     let times = asked.steps as usize;
     let outputs = counts.outputs as usize;
@@ -223,7 +212,7 @@ pub fn refuse_memory(rt: &impl Streams, refusal: PfRefusal, path: &[u8], asked: 
         b"# steps of # outputs are more than the 1048576 values that pf has room for\n",
         two(times, outputs),
     );
-    outcome
+    refused
 }
 
 // ---- as lines
@@ -236,10 +225,8 @@ fn digit_of(value: u8) -> u8 {
 // The values of a step.
 pub fn put_step(rt: &impl Streams, buffer: &mut [u8], out: Out, values: &[u8]) -> Out {
     let mut now = out;
-    let mut i = 0;
-    'values: while i < values.len() {
-        now = put_byte(rt, buffer, now, digit_of(values[i]));
-        i += 1;
+    for value in values {
+        now = put_byte(rt, buffer, now, digit_of(*value));
     }
     put_byte(rt, buffer, now, b'\n')
 }
@@ -254,12 +241,10 @@ pub fn put_steps(
     width: usize,
 ) -> Out {
     let mut now = out;
-    let mut at = 0;
-    let mut step: u32 = 0;
-    'steps: while step < steps {
+    let mut at: usize = 0;
+    for _ in 0..steps {
         now = put_step(rt, buffer, now, first(rest(values, at), width));
-        at = std::num::wrapping_add_usize(at, width);
-        step += 1;
+        at = at.wrapping_add(width);
     }
     now
 }
@@ -267,14 +252,13 @@ pub fn put_steps(
 // ---- run
 
 // The run in the lent memory; the first values are for the X registers.
-pub fn run_into(file: &[u8], asked: Asked, bytes: &[u8], res: &mut [u8]) -> PfRefusal {
+pub fn run_into(file: &[u8], asked: Asked, bytes: &[u8], res: &mut [u8]) -> Result<(), PfRefusal> {
     let mut work = work_room();
-    let counts = asked.counts;
-    let unknown = counts.unknown as usize;
+    let unknown = asked.counts.unknown as usize;
     let choices = first(bytes, unknown);
     let inputs = rest(bytes, unknown);
     match run::run(file, asked.steps, choices, inputs, res, &mut work) {
-        RunAnswer::Done => c_answers::told(0, 0),
-        RunAnswer::Refused(refusal) => c_answers::run_numbers(refusal),
+        Ok(()) => Ok(()),
+        Err(refusal) => Err(c_answers::refusal_numbers(refusal)),
     }
 }
