@@ -1,12 +1,11 @@
 // What an AIGER text is not imported for: refusals 22, 24 and 25, each on its line of the text.
-use aiger_faults::{Cause, Word, header_number};
+use aiger_faults::{Cause, NoNumber, Word, header_number};
 use aiger_lines::Section;
 use listing::folds::work_room;
 use pf_causes::loop_causes::say_text_loop;
 use pf_causes::text_causes::say_text_cause;
 use pf_words::outcome::{say, say_text, say_where, say_word};
-use row_text::{Text, read_text};
-use text::both;
+use row_text::read_text;
 use text::bytes::{find, first, rest};
 use text::numbers::LARGEST;
 use text::out::{one, two};
@@ -51,13 +50,8 @@ fn begins_with_row(text: &[u8]) -> bool {
     let mut numbers = [0u32; 6];
     let mut nowhere = [0u8; 1];
     match read_text(text, &mut numbers, &mut nowhere) {
-        Text::Wrong {
-            line: _,
-            at: _,
-            rows,
-            wrong: _,
-        } => 0 < rows,
-        Text::Rows(rows) => 0 < rows,
+        Ok(rows) => 0 < rows,
+        Err(refusal) => 0 < refusal.rows,
     }
 }
 
@@ -76,8 +70,8 @@ fn say_opening(rt: &impl Streams, text: &[u8]) {
 // What to write for a header of AIGER 1.9, with B, C, J and F after the five numbers. B and C count lines that follow those of the outputs.
 fn say_longer_header(rt: &impl Streams, line: &[u8]) {
     let bad = header_number(line, 5);
-    let more = std::num::wrapping_add_usize(bad, header_number(line, 6));
-    let outputs = std::num::wrapping_add_usize(header_number(line, 3), more);
+    let more = bad.wrapping_add(header_number(line, 6));
+    let outputs = header_number(line, 3).wrapping_add(more);
     let justice = header_number(line, 7);
     let fairness = header_number(line, 8);
     let plain = [
@@ -88,7 +82,7 @@ fn say_longer_header(rt: &impl Streams, line: &[u8]) {
         header_number(line, 4),
         0,
     ];
-    if 0 < std::num::wrapping_add_usize(justice, fairness) {
+    if 0 < justice.wrapping_add(fairness) {
         say_text(rt, b"; justice and fairness (J, F) are not read");
     } else if more == 0 {
         say(
@@ -112,7 +106,7 @@ fn say_header(rt: &impl Streams, text: &[u8], count: usize) {
         b"the header has # numbers, and 5 are read: M I L O A",
         one(count),
     );
-    if both(5 < count, count <= 9) {
+    if 5 < count && count <= 9 {
         say_longer_header(rt, first(text, find(text, 0, b'\n')));
     }
 }
@@ -163,11 +157,16 @@ fn say_undefined(rt: &impl Streams, literal: u32) {
     }
 }
 
+// What is wrong is not known.
+fn say_unread(rt: &impl Streams) {
+    say_text(rt, b"this is not read as an AIGER text");
+}
+
 // What is wrong with a line by itself.
 fn say_line_cause(rt: &impl Streams, text: &[u8], cause: Cause) {
     match cause {
-        Cause::NoNumber { word, from, end } => {
-            let size = std::num::wrapping_sub_usize(end, from);
+        Cause::NoNumber(NoNumber { word, from, end }) => {
+            let size = end.wrapping_sub(from);
             say_no_number(rt, word, first(rest(text, from), size));
         }
         Cause::Missing { last } => say(
@@ -186,7 +185,7 @@ fn say_line_cause(rt: &impl Streams, text: &[u8], cause: Cause) {
             b"reset # is not 0, 1 or the latch itself, #",
             two(reset as usize, latch as usize),
         ),
-        _ => say_text(rt, b"this is not read as an AIGER text"),
+        _ => say_unread(rt),
     }
 }
 
@@ -203,22 +202,32 @@ fn say_fault(rt: &impl Streams, text: &[u8], cause: Cause) {
     }
 }
 
-// 24, with its line.
+// 24, with its line: where no fault is found, the one behind the last that the header counts.
 fn say_other_text(rt: &impl Streams, source: &[u8], text: &[u8]) {
     let mut work = work_room();
     let fault = aiger_faults::find_fault(text, &mut work);
-    let cause = fault.cause;
-    say_where(rt, source, fault.line);
-    if !say_text_cause(rt, text) {
-        say_fault(rt, text, cause);
+    let line = match fault {
+        Some(fault) => fault.line,
+        None => aiger_faults::count_rows(text).wrapping_add(1),
+    };
+    say_where(rt, source, line);
+    if say_text_cause(rt, text) {
+        return;
+    }
+    match fault {
+        Some(fault) => say_fault(rt, text, fault.cause),
+        None => say_unread(rt),
     }
 }
 
 // 22
 fn say_waiting_gate(rt: &impl Streams, source: &[u8], text: &[u8], row: usize) {
-    let gate = aiger_faults::find_gate(text, row);
-    say_where(rt, source, gate.line);
-    say_text_loop(rt, text, gate.literal as usize, row);
+    let (line, literal) = match aiger_faults::find_gate(text, row) {
+        Some(gate) => (gate.line, gate.literal as usize),
+        None => (0, 0),
+    };
+    say_where(rt, source, line);
+    say_text_loop(rt, text, literal, row);
 }
 
 // 25

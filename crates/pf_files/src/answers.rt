@@ -1,11 +1,10 @@
 // Check, Count, Show, and the rows as text.
 use c_answers::{PfCounts, PfRefusal};
 use listing::rows::{put_rows, row_count};
-use pf_causes::{count_refusal, refuse, unordered_refusal};
-use pf_words::outcome::{OUTPUT, Outcome, done_with, fail_word, finish};
-use text::numbers::Number;
+use pf_causes::{count_refusal, number_of, refuse, unordered_refusal};
+use pf_words::outcome::{Outcome, done_with, finish};
 use text::out::{none, put_byte, put_hex, to};
-use text::streams::Streams;
+use text::streams::{OUTPUT, Streams};
 
 // ---- Check
 
@@ -15,7 +14,7 @@ pub fn check(rt: &impl Streams, path: &[u8], file: &[u8]) -> Outcome {
     if refusal.number == 0 {
         done_with(rt, b"accepted\n", none())
     } else {
-        refuse(rt, path, 0, file, refusal, b"")
+        Err(refuse(rt, path, 0, file, refusal, b""))
     }
 }
 
@@ -41,7 +40,7 @@ pub fn count(rt: &impl Streams, path: &[u8], file: &[u8]) -> Outcome {
     if counts.number == 0 {
         tell_counts(rt, counts)
     } else {
-        refuse(rt, path, 0, file, count_refusal(counts), b"")
+        Err(refuse(rt, path, 0, file, count_refusal(counts), b""))
     }
 }
 
@@ -55,13 +54,11 @@ fn separator(i: usize) -> u8 {
 // The bytes of a part, in hexadecimal digits.
 fn put_part(rt: &impl Streams, buffer: &mut [u8], part: &[u8]) -> Outcome {
     let mut out = to(OUTPUT);
-    let mut i = 0;
-    'bytes: while i < part.len() {
-        out = put_hex(rt, buffer, out, part[i]);
+    for (i, byte) in part.iter().enumerate() {
+        out = put_hex(rt, buffer, out, *byte);
         out = put_byte(rt, buffer, out, separator(i));
-        i += 1;
     }
-    finish(rt, buffer, out, Outcome::Done)
+    finish(rt, buffer, out)
 }
 
 // The part's lines.
@@ -78,20 +75,15 @@ fn show_block(rt: &impl Streams, path: &[u8], file: &[u8], block: u32, word: &[u
     if number == 0 {
         tell_part(rt, part)
     } else {
-        let refusal = PfRefusal {
-            number: number,
-            place: place,
-        };
-        refuse(rt, path, 0, file, refusal, word)
+        let refusal = PfRefusal { number, place };
+        Err(refuse(rt, path, 0, file, refusal, word))
     }
 }
 
 // The block is the number that the word has.
 pub fn show(rt: &impl Streams, path: &[u8], file: &[u8], word: &[u8]) -> Outcome {
-    match text::numbers::read(word) {
-        Number::Is(block) => show_block(rt, path, file, block, word),
-        Number::Not => fail_word(rt, b"the block ", word, b" is not a number\n"),
-    }
+    let block = number_of(rt, b"the block ", word, b" is not a number\n")?;
+    show_block(rt, path, file, block, word)
 }
 
 // ---- rows as text
@@ -100,15 +92,13 @@ pub fn show(rt: &impl Streams, path: &[u8], file: &[u8], word: &[u8]) -> Outcome
 fn tell_rows(rt: &impl Streams, file: &[u8]) -> Outcome {
     let mut room = text::rooms::large_buffer();
     let out = put_rows(rt, &mut room, to(OUTPUT), file, row_count(file));
-    finish(rt, &room, out, Outcome::Done)
+    finish(rt, &room, out)
 }
 
 // All rows of an accepted file, whose gates may stand in any order.
 pub fn rows(rt: &impl Streams, path: &[u8], file: &[u8]) -> Outcome {
-    let refusal = unordered_refusal(file);
-    if refusal.number == 0 {
-        tell_rows(rt, file)
-    } else {
-        refuse(rt, path, 0, file, refusal, b"")
+    match unordered_refusal(file) {
+        None => tell_rows(rt, file),
+        Some(refusal) => Err(refuse(rt, path, 0, file, refusal, b"")),
     }
 }

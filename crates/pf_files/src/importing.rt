@@ -5,12 +5,12 @@ use crate::aiger_causes::say_aiger_cause;
 use c_answers::{PfRefusal, PfWritten};
 use listing::rows::{MOST_ROWS, file_bytes};
 use pf_words::calls::Call;
-use pf_words::outcome::{Outcome, done_with, fail_by_cause, say, say_where, tell_refusal};
+use pf_words::outcome::{
+    CallRefusal, Outcome, done_with, fail_by_cause, say, say_where, tell_refusal,
+};
 use pf_words::rooms::result_room;
 use pf_words::saving::save;
-use text::both;
 use text::bytes::first;
-use text::files::Loaded;
 use text::out::one;
 use text::streams::Streams;
 
@@ -30,32 +30,30 @@ fn work_room() -> [u8; 196608]
 
 // The file that stands in `result` is kept.
 fn keep_imported(rt: &Call, written: PfWritten, res: &[u8], kept: &[u8]) -> Outcome {
-    match save(rt, kept, first(res, file_bytes(written.rows))) {
-        Outcome::Done => done_with(rt, b"imported # rows\n", one(written.rows as usize)),
-        _ => Outcome::Failed,
-    }
+    save(rt, kept, first(res, file_bytes(written.rows)))?;
+    done_with(rt, b"imported # rows\n", one(written.rows as usize))
 }
 
 // The refusal is told.
-fn refuse_import(rt: &impl Streams, source: &[u8], text: &[u8], written: PfWritten) -> Outcome {
+fn refuse_import(rt: &impl Streams, source: &[u8], text: &[u8], written: PfWritten) -> CallRefusal {
     let refusal = PfRefusal {
         number: written.number,
         place: written.place,
     };
-    let outcome = tell_refusal(rt, refusal);
+    let refused = tell_refusal(rt, refusal);
     say_aiger_cause(rt, source, text, refusal.number, refusal.place as usize);
-    outcome
+    refused
 }
 
 // A longer text whose header counts more rows than a file has: whether its lines are right is not known.
-fn fail_longer(rt: &impl Streams, source: &[u8], rows: usize) -> Outcome {
+fn fail_longer(rt: &impl Streams, source: &[u8], rows: usize) -> CallRefusal {
     say_where(rt, source, 0);
     say(
         rt,
         b"longer than 1114112 bytes, and its header counts # rows, a file has at most 32256\n",
         one(rows),
     );
-    Outcome::Failed
+    CallRefusal::Failed
 }
 
 // What came of the import of a text, or of the first bytes of a longer one. Then all answers hold for the whole of it, 24 if its rows fit a file: the lines of such a text are among these bytes.
@@ -72,10 +70,10 @@ fn tell_import(
         return keep_imported(rt, written, res, kept);
     }
     let rows = aiger_faults::count_rows(text);
-    if both(longer, both(written.number == 24, MOST_ROWS < rows)) {
-        return fail_longer(rt, source, rows);
+    if longer && written.number == 24 && MOST_ROWS < rows {
+        return Err(fail_longer(rt, source, rows));
     }
-    refuse_import(rt, source, text, written)
+    Err(refuse_import(rt, source, text, written))
 }
 
 // The text's file, in lent memory.
@@ -89,9 +87,8 @@ fn import_text(rt: &Call, source: &[u8], text: &[u8], longer: bool, kept: &[u8])
 // The text is read.
 fn import_from(rt: &Call, source: &[u8], kept: &[u8], room: &mut [u8]) -> Outcome {
     match text::files::load(&rt.host, source, room) {
-        Loaded::Whole(size) => import_text(rt, source, first(room, size), false, kept),
-        Loaded::Longer(size) => import_text(rt, source, first(room, size), true, kept),
-        Loaded::Failed(cause) => fail_by_cause(rt, source, cause),
+        Ok(loaded) => import_text(rt, source, first(room, loaded.size), loaded.longer, kept),
+        Err(cause) => Err(fail_by_cause(rt, source, cause)),
     }
 }
 

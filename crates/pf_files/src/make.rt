@@ -5,18 +5,16 @@ use pf_causes::text_causes::say_text_cause;
 use pf_causes::{say_cause, unordered_refusal};
 use pf_words::calls::Call;
 use pf_words::outcome::{
-    OUTPUT, Outcome, fail_at, fail_by_cause, outcome_if, say, say_text, say_where, say_word,
+    CallRefusal, Outcome, fail_at, fail_by_cause, outcome_if, say, say_text, say_where, say_word,
     tell_refusal,
 };
 use pf_words::rooms::result_room;
 use pf_words::row_causes::{first_own, say_row_cause};
 use pf_words::saving::save;
-use row_text::{LARGE, Text, Wrong, line_of, read_text, word_of};
-use text::bytes::{first, rest, same};
-use text::files::Loaded;
-use text::numbers::number_at;
+use row_text::{LARGE, LineRefusal, TextRefusal, line_of, read_text, word_of};
+use text::bytes::{first, get, rest};
 use text::out::{one, tell};
-use text::streams::Streams;
+use text::streams::{OUTPUT, Streams};
 
 // ---- what is wrong with a text
 
@@ -38,9 +36,9 @@ fn say_large_byte(rt: &impl Streams, name: &[u8], value: u32) {
 
 // Which of a, b and c is too large.
 fn say_wrong_field(rt: &impl Streams, numbers: &[u32]) {
-    if LARGE <= number_at(numbers, 3) {
+    if LARGE <= get(numbers, 3) {
         say_text(rt, b"a");
-    } else if LARGE <= number_at(numbers, 4) {
+    } else if LARGE <= get(numbers, 4) {
         say_text(rt, b"b");
     } else {
         say_text(rt, b"c");
@@ -62,44 +60,36 @@ fn say_no_number(rt: &impl Streams, text: &[u8], at: usize) {
     say_text(rt, b" is not a number");
 }
 
-// What is wrong with a line of the text that begins at `at`.
-fn say_wrong(
-    rt: &impl Streams,
-    text: &[u8],
-    at: usize,
-    numbers: &[u32],
-    rows: usize,
-    wrong: Wrong,
-) {
-    match wrong {
-        Wrong::Word(start) => say_no_number(rt, text, std::num::wrapping_add_usize(at, start)),
-        Wrong::Count(count) => say(
+// What is wrong with a line of the text.
+fn say_wrong(rt: &impl Streams, text: &[u8], numbers: &[u32], refusal: TextRefusal) {
+    match refusal.wrong {
+        LineRefusal::Word(start) => say_no_number(rt, text, refusal.at.wrapping_add(start)),
+        LineRefusal::Count(count) => say(
             rt,
             b"numbers: #, and a row has 6: number kind reset a b c",
             one(count),
         ),
-        Wrong::Order => say_order(rt, number_at(numbers, 0), rows),
-        Wrong::Kind => say_large_byte(rt, b"the kind", number_at(numbers, 1)),
-        Wrong::Reset => say_large_byte(rt, b"the reset", number_at(numbers, 2)),
-        Wrong::Field => say_wrong_field(rt, numbers),
-        Wrong::Rows => say_text(rt, b"a file has at most 32256 rows"),
+        LineRefusal::Order => say_order(rt, get(numbers, 0), refusal.rows),
+        LineRefusal::Kind => say_large_byte(rt, b"the kind", get(numbers, 1)),
+        LineRefusal::Reset => say_large_byte(rt, b"the reset", get(numbers, 2)),
+        LineRefusal::Field => say_wrong_field(rt, numbers),
+        LineRefusal::Rows => say_text(rt, b"a file has at most 32256 rows"),
     }
 }
 
 // The refusal of a line: its number on standard output, and how its message begins.
-fn tell_line(rt: &impl Streams, source: &[u8], line: usize) -> Outcome {
+fn tell_line(rt: &impl Streams, source: &[u8], line: usize) -> CallRefusal {
     let right = tell(rt, OUTPUT, b"refused line #\n", one(line));
-    let outcome = outcome_if(rt, right, Outcome::Refused);
+    let told = outcome_if(rt, right);
     say_where(rt, source, line);
-    outcome
+    told.err().unwrap_or(CallRefusal::Refused)
 }
 
 // ---- the file
 
 // The line of the row at which a file is refused; 0 if it is refused as a whole.
 fn refused_line(text: &[u8], refusal: PfRefusal) -> usize {
-    let number = refusal.number;
-    match number {
+    match refusal.number {
         6..=9 => line_of(text, refusal.place as usize),
         _ => 0,
     }
@@ -119,28 +109,23 @@ fn say_if_unordered(rt: &impl Streams, source: &[u8], text: &[u8], file: &[u8]) 
 
 // A file is written to the path.
 fn save_told(rt: &Call, source: &[u8], text: &[u8], path: &[u8], file: &[u8]) -> Outcome {
-    match save(rt, path, file) {
-        Outcome::Done => {
-            say_if_unordered(rt, source, text, file);
-            Outcome::Done
-        }
-        _ => Outcome::Failed,
-    }
+    save(rt, path, file)?;
+    say_if_unordered(rt, source, text, file);
+    Ok(())
 }
 
 // An accepted file is written to the path; its gates may stand in any order.
 fn save_accepted(rt: &Call, source: &[u8], text: &[u8], path: &[u8], file: &[u8]) -> Outcome {
-    let refusal = unordered_refusal(file);
-    if refusal.number == 0 {
+    let Some(refusal) = unordered_refusal(file) else {
         return save_told(rt, source, text, path, file);
-    }
-    let outcome = tell_refusal(rt, refusal);
+    };
+    let refused = tell_refusal(rt, refusal);
     say_where(rt, source, refused_line(text, refusal));
     if !say_text_cause(rt, text) {
         say_cause(rt, file, refusal.number, refusal.place as usize, b"");
     }
     say_text(rt, b"\n");
-    outcome
+    Err(refused)
 }
 
 // Heads and check words around the rows that stand in `result`.
@@ -166,12 +151,12 @@ fn save_rows(
     rows: usize,
 ) -> Outcome {
     if rows == 0 {
-        let outcome = tell_line(rt, source, 0);
+        let refused = tell_line(rt, source, 0);
         if !say_text_cause(rt, text) {
             say_text(rt, b"the text has no row");
         }
         say_text(rt, b"\n");
-        return outcome;
+        return Err(refused);
     }
     let size = seal(res, rows);
     save_accepted(rt, source, text, path, first(res, size))
@@ -182,32 +167,27 @@ fn make_file(rt: &Call, source: &[u8], text: &[u8], path: &[u8], res: &mut [u8])
     let mut room = [0u32; 6];
     let numbers: &mut [u32] = &mut room;
     match read_text(text, numbers, res) {
-        Text::Wrong {
-            line,
-            at,
-            rows,
-            wrong,
-        } => {
-            let outcome = tell_line(rt, source, line);
+        Ok(rows) => save_rows(rt, source, text, path, res, rows),
+        Err(refusal) => {
+            let refused = tell_line(rt, source, refusal.line);
             if !say_text_cause(rt, text) {
-                say_wrong(rt, text, at, numbers, rows, wrong);
+                say_wrong(rt, text, numbers, refusal);
             }
             say_text(rt, b"\n");
-            outcome
+            Err(refused)
         }
-        Text::Rows(rows) => save_rows(rt, source, text, path, res, rows),
     }
 }
 
 // The file of a text, unless it is an AIGER text.
 fn make_in_room(rt: &Call, source: &[u8], text: &[u8], path: &[u8]) -> Outcome {
-    if same(first(text, 4), b"aag ") {
-        let outcome = tell_line(rt, source, 1);
+    if text.starts_with(b"aag ") {
+        let refused = tell_line(rt, source, 1);
         say_text(
             rt,
             b"this is an AIGER text, of which pf import makes a netlist file\n",
         );
-        return outcome;
+        return Err(refused);
     }
     let mut result = result_room();
     make_file(rt, source, text, path, &mut result)
@@ -216,9 +196,9 @@ fn make_in_room(rt: &Call, source: &[u8], text: &[u8], path: &[u8]) -> Outcome {
 // The text is read.
 fn make_from(rt: &Call, source: &[u8], path: &[u8], room: &mut [u8]) -> Outcome {
     match text::files::load(&rt.host, source, room) {
-        Loaded::Whole(size) => make_in_room(rt, source, first(room, size), path),
-        Loaded::Longer(_) => fail_at(rt, source, b"longer than 1048576 bytes\n"),
-        Loaded::Failed(cause) => fail_by_cause(rt, source, cause),
+        Ok(loaded) if loaded.longer => { Err(fail_at(rt, source, b"longer than 1048576 bytes\n")) }
+        Ok(loaded) => make_in_room(rt, source, first(room, loaded.size), path),
+        Err(cause) => Err(fail_by_cause(rt, source, cause)),
     }
 }
 

@@ -7,14 +7,11 @@ use pf_words::rooms::{result_room, work_room};
 use pf_words::saving::save;
 use text::bytes::first;
 use text::out::one;
-use text::streams::Streams;
 
 // The sorted file, which is as long as the one given, is kept.
 fn keep_sorted(rt: &Call, written: PfWritten, sorted: &[u8], kept: &[u8]) -> Outcome {
-    match save(rt, kept, sorted) {
-        Outcome::Done => done_with(rt, b"sorted # rows\n", one(written.rows as usize)),
-        _ => Outcome::Failed,
-    }
+    save(rt, kept, sorted)?;
+    done_with(rt, b"sorted # rows\n", one(written.rows as usize))
 }
 
 // The refusal that stands in an answer of Sort.
@@ -38,6 +35,6 @@ pub fn sort(rt: &Call, path: &[u8], file: &[u8], kept: &[u8]) -> Outcome {
     if written.number == 0 {
         keep_sorted(rt, written, first(&result, file.len()), kept)
     } else {
-        refuse(rt, path, 0, file, sort_refusal(written), b"")
+        Err(refuse(rt, path, 0, file, sort_refusal(written), b""))
     }
 }
