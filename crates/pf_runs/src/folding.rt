@@ -1,17 +1,17 @@
 // Fold, its answers and clocks as lines, and its clocks drawn.
-use fold_answers::{FoldNumbers, Folding};
+use fold_answers::FoldNumbers;
+use fold_refusals::FoldRefusal;
 use listing::folds::{
     CLOCK_ENTRIES, Entry, entry_of, put_clock, put_entries, put_numbers, work_room,
 };
 use listing::rows::file_bytes;
-use pf_causes::refuse;
+use pf_causes::{number_of, refuse};
 use pf_words::calls::Call;
-use pf_words::outcome::{OUTPUT, Outcome, fail_word, finish};
+use pf_words::outcome::{CallRefusal, Outcome, finish};
 use pf_words::saving::save;
 use text::bytes::first;
-use text::numbers::Number;
 use text::out::{Out, pad, put, put_byte, to};
-use text::streams::Streams;
+use text::streams::{OUTPUT, Streams};
 
 // Where a drawing begins in its line.
 const COLUMN: usize = 22;
@@ -28,14 +28,14 @@ fn put_fold(rt: &impl Streams, buffer: &mut [u8], numbers: FoldNumbers, work: &[
 fn tell_fold(rt: &impl Streams, numbers: FoldNumbers, work: &[u8]) -> Outcome {
     let mut room = text::rooms::large_buffer();
     let out = put_fold(rt, &mut room, numbers, work);
-    finish(rt, &room, out, Outcome::Done)
+    finish(rt, &room, out)
 }
 
 // ---- drawings
 
 // Blanks up to the drawing, in a line that began at `start`.
 fn put_to_column(rt: &impl Streams, buffer: &mut [u8], out: Out, start: usize) -> Out {
-    let size = std::num::wrapping_sub_usize(out.waiting, start);
+    let size = out.waiting.wrapping_sub(start);
     let blanks = COLUMN - text::bytes::least(size, COLUMN);
     pad(rt, buffer, out, blanks)
 }
@@ -50,10 +50,8 @@ fn level_of(word: u32, phase: u32) -> u8 {
 // A clock's level in each phase.
 fn put_levels(rt: &impl Streams, buffer: &mut [u8], out: Out, word: u32, phases: u32) -> Out {
     let mut now = out;
-    let mut phase: u32 = 0;
-    'phases: while phase < phases {
+    for phase in 0..phases {
         now = put_byte(rt, buffer, now, level_of(word, phase));
-        phase += 1;
     }
     put(rt, buffer, now, b"\n")
 }
@@ -84,11 +82,8 @@ fn put_drawings(
     used: u32,
 ) -> Out {
     let mut now = out;
-    let mut index: u32 = 0;
-    'entries: while index < used {
-        let entry = entry_of(work, index);
-        now = put_drawing(rt, buffer, now, entry, phases);
-        index += 1;
+    for index in 0..used {
+        now = put_drawing(rt, buffer, now, entry_of(work, index), phases);
     }
     now
 }
@@ -119,96 +114,86 @@ fn put_clocks(rt: &impl Streams, buffer: &mut [u8], numbers: FoldNumbers, work: 
 fn tell_clocks(rt: &impl Streams, numbers: FoldNumbers, work: &[u8]) -> Outcome {
     let mut room = text::rooms::large_buffer();
     let out = put_clocks(rt, &mut room, numbers, work);
-    finish(rt, &room, out, Outcome::Done)
+    finish(rt, &room, out)
 }
 
 // ---- the commands
 
-// What is made of a fold: its answers, with its file kept or not; or its clocks drawn.
+// What is made of a fold: its answers, with its file kept there or not; or its clocks drawn.
 #[derive(Clone, Copy)]
-enum Wanted {
+enum Wanted<'a> {
     Answers,
-    Kept,
+    Kept(&'a [u8]),
     Clocks,
 }
 
 // The lines of a fold whose file is kept.
 fn tell_kept(rt: &Call, numbers: FoldNumbers, work: &[u8], res: &[u8], kept: &[u8]) -> Outcome {
-    match save(rt, kept, first(res, file_bytes(numbers.after))) {
-        Outcome::Done => tell_fold(rt, numbers, work),
-        _ => Outcome::Failed,
-    }
+    save(rt, kept, first(res, file_bytes(numbers.after)))?;
+    tell_fold(rt, numbers, work)
 }
 
 // What is wanted of an accepted fold.
 fn tell_wanted(
     rt: &Call,
-    wanted: Wanted,
+    wanted: Wanted<'_>,
     numbers: FoldNumbers,
     work: &[u8],
     res: &[u8],
-    kept: &[u8],
 ) -> Outcome {
     match wanted {
         Wanted::Answers => tell_fold(rt, numbers, work),
-        Wanted::Kept => tell_kept(rt, numbers, work, res, kept),
+        Wanted::Kept(kept) => tell_kept(rt, numbers, work, res, kept),
         Wanted::Clocks => tell_clocks(rt, numbers, work),
     }
 }
 
 // The fold in the lent memory.
-fn fold_into(file: &[u8], wish: u32, res: &mut [u8], work: &mut [u8]) -> Folding {
+fn fold_into(
+    file: &[u8],
+    wish: u32,
+    res: &mut [u8],
+    work: &mut [u8],
+) -> Result<FoldNumbers, FoldRefusal> {
     fold_core::fold_core(file, wish, res, work, CLOCK_ENTRIES)
 }
 
 // The fold by this wish, or the refusal.
 fn fold_by(
     rt: &Call,
-    wanted: Wanted,
+    wanted: Wanted<'_>,
     path: &[u8],
     file: &[u8],
     wish: u32,
     word: &[u8],
-    kept: &[u8],
 ) -> Outcome {
     let mut result = text::rooms::large_buffer();
     let mut work = work_room();
     match fold_into(file, wish, &mut result, &mut work) {
-        Folding::Done(numbers) => tell_wanted(rt, wanted, numbers, &work, &result, kept),
-        Folding::Refused(refusal) => refuse(
-            rt,
-            path,
-            0,
-            file,
-            c_answers::fold_numbers(refusal),
-            word,
-        ),
+        Ok(numbers) => tell_wanted(rt, wanted, numbers, &work, &result),
+        Err(refusal) => Err(refuse(rt, path, 0, file, c_answers::refusal_numbers(refusal), word)),
     }
 }
 
-// The wish: the word after the file, if there is one; else 0.
-fn wish_of(count: usize, word: &[u8]) -> Number {
+// The wish: the number that the word after the file has, if there is one; else 0.
+fn wish_of(rt: &impl Streams, count: usize, word: &[u8]) -> Result<u32, CallRefusal> {
     if count < 2 {
-        Number::Is(0)
-    } else {
-        text::numbers::read(word)
+        return Ok(0);
     }
+    number_of(rt, b"the wish ", word, b" is not a number\n")
 }
 
-// The wish is the number that the word has, if it is given.
+// What is wanted of the fold by the wish, if it is given.
 fn fold_wanted(
     rt: &Call,
-    wanted: Wanted,
+    wanted: Wanted<'_>,
     count: usize,
     path: &[u8],
     file: &[u8],
     word: &[u8],
-    kept: &[u8],
 ) -> Outcome {
-    match wish_of(count, word) {
-        Number::Is(wish) => fold_by(rt, wanted, path, file, wish, word, kept),
-        Number::Not => fail_word(rt, b"the wish ", word, b" is not a number\n"),
-    }
+    let wish = wish_of(rt, count, word)?;
+    fold_by(rt, wanted, path, file, wish, word)
 }
 
 // The file, the wish, and where the result is kept; the last two may be left out.
@@ -223,12 +208,12 @@ pub fn fold(
     let wanted = if count < 3 {
         Wanted::Answers
     } else {
-        Wanted::Kept
+        Wanted::Kept(kept)
     };
-    fold_wanted(rt, wanted, count, path, file, word, kept)
+    fold_wanted(rt, wanted, count, path, file, word)
 }
 
 // The file and the wish, which may be left out.
 pub fn clocks(rt: &Call, count: usize, path: &[u8], file: &[u8], word: &[u8]) -> Outcome {
-    fold_wanted(rt, Wanted::Clocks, count, path, file, word, b"")
+    fold_wanted(rt, Wanted::Clocks, count, path, file, word)
 }

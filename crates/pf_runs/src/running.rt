@@ -2,15 +2,14 @@
 use c_answers::PfRefusal;
 use pf_causes::text_causes::Encoding;
 use pf_causes::values::{
-    Asked, Given, Values, load_values, put_steps, refuse_memory, refuse_values, run_into,
+    Asked, Values, load_values, put_steps, refuse_memory, refuse_values, run_into,
 };
-use pf_causes::{count_refusal, refuse};
+use pf_causes::{count_refusal, number_of, refuse};
 use pf_words::calls::Call;
-use pf_words::outcome::{OUTPUT, Outcome, fail_word, finish};
+use pf_words::outcome::{CallRefusal, Outcome, finish};
 use text::bytes::first;
-use text::numbers::Number;
 use text::out::to;
-use text::streams::Streams;
+use text::streams::{OUTPUT, Streams};
 
 // 18 and 19
 fn refuse_run_values(
@@ -19,7 +18,7 @@ fn refuse_run_values(
     source: &[u8],
     asked: Asked,
     values: Values,
-) -> Outcome {
+) -> CallRefusal {
     let lists = refusal.number == 18;
     refuse_values(
         rt,
@@ -36,7 +35,7 @@ fn refuse_run_values(
 fn tell_steps(rt: &impl Streams, values: &[u8], steps: u32, outputs: usize) -> Outcome {
     let mut room = text::rooms::large_buffer();
     let out = put_steps(rt, &mut room, to(OUTPUT), values, steps, outputs);
-    finish(rt, &room, out, Outcome::Done)
+    finish(rt, &room, out)
 }
 
 // The run of an accepted file: its outputs, or its refusal.
@@ -52,15 +51,14 @@ fn run_accepted(
 ) -> Outcome {
     let mut room = text::files::long_room();
     let result: &mut [u8] = &mut room;
-    let refusal = run_into(file, asked, bytes, result);
-    let counts = asked.counts;
-    let number = refusal.number;
-    match number {
-        0 => tell_steps(rt, result, asked.steps, counts.outputs as usize),
+    let Err(refusal) = run_into(file, asked, bytes, result) else {
+        return tell_steps(rt, result, asked.steps, asked.counts.outputs as usize);
+    };
+    Err(match refusal.number {
         18 | 19 => refuse_run_values(rt, refusal, source, asked, values),
         20 => refuse_memory(rt, refusal, path, asked),
         _ => refuse(rt, path, 0, file, refusal, word),
-    }
+    })
 }
 
 // The run on the values at the start of the room, or the refusal of the file.
@@ -77,12 +75,12 @@ fn run_values(
 ) -> Outcome {
     let counts = phasefold::c_count::pf_count(file);
     if counts.number != 0 {
-        return refuse(rt, path, 0, file, count_refusal(counts), word);
+        return Err(refuse(rt, path, 0, file, count_refusal(counts), word));
     }
     let asked = Asked {
-        steps: steps,
-        counts: counts,
-        encoding: encoding,
+        steps,
+        counts,
+        encoding,
     };
     run_accepted(
         rt,
@@ -106,12 +104,8 @@ fn run_from(
     source: &[u8],
     room: &mut [u8],
 ) -> Outcome {
-    match load_values(rt, source, room) {
-        Given::Values(values, encoding) => {
-            run_values(rt, path, file, steps, word, source, room, values, encoding)
-        }
-        Given::None => Outcome::Failed,
-    }
+    let (values, encoding) = load_values(rt, source, room)?;
+    run_values(rt, path, file, steps, word, source, room, values, encoding)
 }
 
 // The run of this many steps on the values in the file `source`.
@@ -129,8 +123,6 @@ fn run_steps(
 
 // The steps are the number that the word has.
 pub fn run(rt: &Call, path: &[u8], file: &[u8], word: &[u8], source: &[u8]) -> Outcome {
-    match text::numbers::read(word) {
-        Number::Is(steps) => run_steps(rt, path, file, steps, word, source),
-        Number::Not => fail_word(rt, b"the steps ", word, b" are not a number\n"),
-    }
+    let steps = number_of(rt, b"the steps ", word, b" are not a number\n")?;
+    run_steps(rt, path, file, steps, word, source)
 }
