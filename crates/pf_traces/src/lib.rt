@@ -2,23 +2,21 @@
 #![tactic(auto)]
 
 use c_answers::{PfCounts, PfRefusal, PfTraced};
-use fold_answers::Folding;
+use fold_refusals::FoldRefusal;
 use listing::folds::CLOCK_ENTRIES;
 use listing::rows::{fields_of, file_bytes};
-use pf_causes::refuse;
 use pf_causes::text_causes::Encoding;
 use pf_causes::values::{
-    Asked, Given, Values, load_values, put_step, put_steps, refuse_memory, refuse_values, run_into,
+    Asked, Values, load_values, put_step, put_steps, refuse_memory, refuse_values, run_into,
 };
+use pf_causes::{number_of, refuse};
 use pf_words::calls::Call;
 use pf_words::outcome::{
-    OUTPUT, Outcome, fail_word, finish, say, say_text, say_where, tell_refusal,
+    CallRefusal, Outcome, fail_word, finish, say, say_text, say_where, tell_refusal,
 };
 use text::bytes::{first, least, rest, same, wide};
-use text::numbers::Number;
 use text::out::{Out, one, put, put_filled, three, to};
-use text::streams::Streams;
-use text::{both, either};
+use text::streams::{OUTPUT, Streams};
 
 const MOST_GROUPS: u32 = 512;
 
@@ -52,22 +50,21 @@ fn in_all(times: usize, each: usize) -> usize {
 // How many values there are: one for each X register, and so many times one for each input.
 fn values_in_all(counts: PfCounts, times: usize) -> usize {
     let inputs = in_all(times, counts.inputs as usize);
-    std::num::wrapping_add_usize(counts.unknown as usize, inputs)
+    inputs.wrapping_add(counts.unknown as usize)
 }
 
 // How many of the original's steps there are up to the phase in the last group.
 fn steps_of(wanted: Wanted, phases: u32) -> usize {
-    let groups = std::num::wrapping_sub_u32(wanted.groups, 1) as usize;
+    let groups = wanted.groups.wrapping_sub(1) as usize;
     let before = in_all(groups, phases as usize);
-    let step = std::num::wrapping_add_usize(before, wanted.phase as usize);
-    std::num::wrapping_add_usize(step, 1)
+    before.wrapping_add(wanted.phase as usize).wrapping_add(1)
 }
 
 // ---- refusals 26 to 28
 
 // 26; the words are those of the call.
 fn say_groups(rt: &impl Streams, wanted: Wanted, groups: &[u8], phase: &[u8], phases: u32) {
-    if either(wanted.groups == 0, MOST_GROUPS < wanted.groups) {
+    if wanted.groups == 0 || MOST_GROUPS < wanted.groups {
         say_text(rt, groups);
         say_text(rt, b" groups, and a trace has 1 to 512");
     } else {
@@ -101,7 +98,7 @@ fn refuse_fold_values(
     refusal: PfRefusal,
     source: &[u8],
     taken: Taken,
-) -> Outcome {
+) -> CallRefusal {
     let asked = taken.asked;
     let values = taken.values;
     let right = values_in_all(asked.counts, asked.steps as usize);
@@ -126,17 +123,16 @@ fn refuse_groups(
     phase: &[u8],
     wanted: Wanted,
     phases: u32,
-) -> Outcome {
-    let outcome = tell_refusal(rt, refusal);
-    let number = refusal.number;
+) -> CallRefusal {
+    let refused = tell_refusal(rt, refusal);
     say_where(rt, path, 0);
-    if number == 26 {
+    if refusal.number == 26 {
         say_groups(rt, wanted, groups, phase, phases);
     } else {
         say_room(rt, file, wanted, phases);
     }
     say_text(rt, b"\n");
-    outcome
+    refused
 }
 
 // ---- the trace as a text of values
@@ -149,8 +145,8 @@ fn put_steps_remark(
     wanted: Wanted,
     steps: u32,
 ) -> Out {
-    let last = std::num::wrapping_sub_u32(steps, 1) as usize;
-    let group = std::num::wrapping_sub_u32(wanted.groups, 1) as usize;
+    let last = steps.wrapping_sub(1) as usize;
+    let group = wanted.groups.wrapping_sub(1) as usize;
     let named = put(rt, buffer, out, b"# steps of the original: ");
     let counted = put_filled(rt, buffer, named, b"#\n", one(steps as usize));
     let begun = put(rt, buffer, counted, b"# the last one is step ");
@@ -200,7 +196,7 @@ fn put_lines_remark(rt: &impl Streams, buffer: &mut [u8], out: Out, counts: PfCo
 
 // The line of the X registers, if there are any.
 fn put_choices(rt: &impl Streams, buffer: &mut [u8], out: Out, choices: &[u8]) -> Out {
-    if choices.len() == 0 {
+    if choices.is_empty() {
         out
     } else {
         put_step(rt, buffer, out, choices)
@@ -257,11 +253,9 @@ fn put_outputs(
     shown: &[u8],
 ) -> Out {
     let mut now = out;
-    let mut i = 0;
-    'outputs: while i < shown.len() {
-        let fields = fields_of(file, std::num::wrapping_add_usize(nodes, i));
-        now = put_output(rt, buffer, now, step, fields.b, shown[i]);
-        i += 1;
+    for (i, value) in shown.iter().enumerate() {
+        let fields = fields_of(file, nodes.wrapping_add(i));
+        now = put_output(rt, buffer, now, step, fields.b, *value);
     }
     now
 }
@@ -277,7 +271,7 @@ fn tell_trace(
 ) -> Outcome {
     let mut room = text::rooms::large_buffer();
     let counts = asked.counts;
-    let last = std::num::wrapping_sub_u32(asked.steps, 1) as usize;
+    let last = asked.steps.wrapping_sub(1) as usize;
     let counted = put_steps_remark(rt, &mut room, to(OUTPUT), wanted, asked.steps);
     let begun = put_lines_remark(rt, &mut room, counted, counts);
     let valued = put_values(rt, &mut room, begun, asked, left);
@@ -290,7 +284,7 @@ fn tell_trace(
         last,
         shown,
     );
-    finish(rt, &room, out, Outcome::Done)
+    finish(rt, &room, out)
 }
 
 // The text, with what the run shows at the last step. Run takes every trace, and can refuse it for its memory alone.
@@ -304,13 +298,12 @@ fn tell_run(
 ) -> Outcome {
     let mut room = text::files::long_room();
     let result: &mut [u8] = &mut room;
-    let refusal = run_into(file, asked, left, result);
-    if refusal.number != 0 {
-        return refuse_memory(rt, refusal, path, asked);
+    if let Err(refusal) = run_into(file, asked, left, result) {
+        return Err(refuse_memory(rt, refusal, path, asked));
     }
     let counts = asked.counts;
     let outputs = counts.outputs as usize;
-    let last = std::num::wrapping_sub_u32(asked.steps, 1) as usize;
+    let last = asked.steps.wrapping_sub(1) as usize;
     let shown = first(rest(result, in_all(last, outputs)), outputs);
     tell_trace(rt, file, wanted, asked, left, shown)
 }
@@ -326,8 +319,8 @@ fn tell_wanted(
 ) -> Outcome {
     let counts = phasefold::c_count::pf_count(file);
     let asked = Asked {
-        steps: steps,
-        counts: counts,
+        steps,
+        counts,
         encoding: Encoding::Plain,
     };
     let trace = first(left, values_in_all(counts, steps as usize));
@@ -340,25 +333,22 @@ fn tell_wanted(
 
 // ---- the command
 
-// The phases and the counts of a fold, or its refusal.
+// The phases and the counts of a fold.
 #[derive(Clone, Copy)]
-enum Folded {
-    Is { phases: u32, counts: PfCounts },
-    Refused(PfRefusal),
+struct Folded {
+    phases: u32,
+    counts: PfCounts,
 }
 
 // The fold by this wish.
-fn fold_of(file: &[u8], wish: u32) -> Folded {
+fn fold_of(file: &[u8], wish: u32) -> Result<Folded, FoldRefusal> {
     let mut result = text::rooms::large_buffer();
     let mut work = listing::folds::work_room();
-    let folding = fold_core::fold_core(file, wish, &mut result, &mut work, CLOCK_ENTRIES);
-    match folding {
-        Folding::Done(numbers) => Folded::Is {
-            phases: numbers.phases,
-            counts: phasefold::c_count::pf_count(first(&result, file_bytes(numbers.after))),
-        },
-        Folding::Refused(refusal) => Folded::Refused(c_answers::fold_numbers(refusal)),
-    }
+    let numbers = fold_core::fold_core(file, wish, &mut result, &mut work, CLOCK_ENTRIES)?;
+    Ok(Folded {
+        phases: numbers.phases,
+        counts: phasefold::c_count::pf_count(first(&result, file_bytes(numbers.after))),
+    })
 }
 
 // The trace at the start of the memory `left`.
@@ -381,7 +371,7 @@ fn trace_lent(
         inputs,
         res,
         work,
-        &mut left[0..end],
+        &mut left[..end],
     )
 }
 
@@ -422,13 +412,12 @@ fn trace_taken(
         number: traced.number,
         place: traced.place,
     };
-    let number = traced.number;
-    match number {
-        0 => tell_wanted(rt, path, file, wanted, traced.steps, left),
+    Err(match refusal.number {
+        0 => return tell_wanted(rt, path, file, wanted, traced.steps, left),
         26 | 28 => refuse_groups(rt, refusal, path, file, groups, phase, wanted, taken.phases),
         27 => refuse_fold_values(rt, refusal, source, taken),
         _ => refuse(rt, path, 0, file, refusal, wish),
-    }
+    })
 }
 
 // The fold tells how many values there should be.
@@ -445,24 +434,26 @@ fn trace_values(
     values: Values,
     encoding: Encoding,
 ) -> Outcome {
-    match fold_of(file, wanted.wish) {
-        Folded::Is { phases, counts } => {
-            let asked = Asked {
-                steps: wanted.groups,
-                counts: counts,
-                encoding: encoding,
-            };
-            let taken = Taken {
-                phases: phases,
-                asked: asked,
-                values: values,
-            };
-            trace_taken(
-                rt, path, file, wish, groups, phase, source, wanted, bytes, taken,
-            )
+    let Folded { phases, counts } = match fold_of(file, wanted.wish) {
+        Ok(folded) => folded,
+        Err(refusal) => {
+            let refusal = c_answers::refusal_numbers(refusal);
+            return Err(refuse(rt, path, 0, file, refusal, wish));
         }
-        Folded::Refused(refusal) => refuse(rt, path, 0, file, refusal, wish),
-    }
+    };
+    let asked = Asked {
+        steps: wanted.groups,
+        counts,
+        encoding,
+    };
+    let taken = Taken {
+        phases,
+        asked,
+        values,
+    };
+    trace_taken(
+        rt, path, file, wish, groups, phase, source, wanted, bytes, taken,
+    )
 }
 
 // The values are read.
@@ -477,38 +468,20 @@ fn trace_from(
     wanted: Wanted,
 ) -> Outcome {
     let mut room = text::files::long_room();
-    match load_values(rt, source, &mut room) {
-        Given::Values(values, encoding) => trace_values(
-            rt,
-            path,
-            file,
-            wish,
-            groups,
-            phase,
-            source,
-            wanted,
-            first(&room, values.count),
-            values,
-            encoding,
-        ),
-        Given::None => Outcome::Failed,
-    }
-}
-
-// Whether a word is a number.
-fn is_number(word: &[u8]) -> bool {
-    match text::numbers::read(word) {
-        Number::Is(_) => true,
-        Number::Not => false,
-    }
-}
-
-// The number that a word is; 0 if it is none.
-fn number_of(word: &[u8]) -> u32 {
-    match text::numbers::read(word) {
-        Number::Is(number) => number,
-        Number::Not => 0,
-    }
+    let (values, encoding) = load_values(rt, source, &mut room)?;
+    trace_values(
+        rt,
+        path,
+        file,
+        wish,
+        groups,
+        phase,
+        source,
+        wanted,
+        first(&room, values.count),
+        values,
+        encoding,
+    )
 }
 
 // The file, the wish, the groups, the phase and the values; the last word is --run, and may be left out.
@@ -524,23 +497,14 @@ pub fn trace(
     last: &[u8],
 ) -> Outcome {
     let runs = 5 < count;
-    if both(runs, !same(last, b"--run")) {
-        return fail_word(rt, b"the last word ", last, b" is not --run\n");
-    }
-    if !is_number(wish) {
-        return fail_word(rt, b"the wish ", wish, b" is not a number\n");
-    }
-    if !is_number(groups) {
-        return fail_word(rt, b"the groups ", groups, b" are not a number\n");
-    }
-    if !is_number(phase) {
-        return fail_word(rt, b"the phase ", phase, b" is not a number\n");
+    if runs && !same(last, b"--run") {
+        return Err(fail_word(rt, b"the last word ", last, b" is not --run\n"));
     }
     let wanted = Wanted {
-        wish: number_of(wish),
-        groups: number_of(groups),
-        phase: number_of(phase),
-        runs: runs,
+        wish: number_of(rt, b"the wish ", wish, b" is not a number\n")?,
+        groups: number_of(rt, b"the groups ", groups, b" are not a number\n")?,
+        phase: number_of(rt, b"the phase ", phase, b" is not a number\n")?,
+        runs,
     };
     trace_from(rt, path, file, wish, groups, phase, source, wanted)
 }
