@@ -3,18 +3,16 @@
 
 ghost use Rattle.std.specs.Prelude.{◌≡◌, length};
 
-use fold_answers::{FoldNumbers, Folding};
+use fold_answers::FoldNumbers;
 use fold_refusals::FoldRefusal;
 use listing::folds::{CLOCK_ENTRIES, work_room};
+use questions::Numbered;
 use std::io::Input;
 use text::bytes::first;
-use text::files::Loaded;
 use text::out::{Out, to};
-use text::streams::Streams;
+use text::streams::{OUTPUT, Streams};
 
 const WISH: u32 = 0;
-
-const OUTPUT: i32 = 1;
 
 // The program reads 65,536 bytes, though a file may have more: the room has one byte more than that. A longer input fills it, and 65,537 is no multiple of 512, so it is refused with 1, even where the file is sound.
 fn input_room() -> [u8; 65537]
@@ -38,8 +36,8 @@ fn put_fold(
 
 // The line of a refusal.
 fn put_refused(rt: &impl Streams, buffer: &mut [u8], refusal: FoldRefusal) -> Out {
-    let number = fold_refusals::number_of(refusal);
-    let place = fold_refusals::place_of(refusal);
+    let number = refusal.number();
+    let place = refusal.place();
     listing::refusals::put_refusal(rt, buffer, to(OUTPUT), number, place)
 }
 
@@ -52,8 +50,8 @@ fn put_answer(
     work: &mut [u8],
 ) -> Out {
     match fold_core::fold_core(file, WISH, res, work, CLOCK_ENTRIES) {
-        Folding::Done(numbers) => put_fold(rt, buffer, numbers, res, work),
-        Folding::Refused(refusal) => put_refused(rt, buffer, refusal),
+        Ok(numbers) => put_fold(rt, buffer, numbers, res, work),
+        Err(refusal) => put_refused(rt, buffer, refusal),
     }
 }
 
@@ -69,9 +67,8 @@ fn fold_and_print(rt: &impl Streams, file: &[u8]) {
 // Standard input is read; where that fails, nothing is printed.
 fn read_and_print(rt: &(impl Streams + Input), room: &mut [u8]) {
     match text::files::load_from(&mut rt.reader(), room) {
-        Loaded::Whole(size) => fold_and_print(rt, first(room, size)),
-        Loaded::Longer(size) => fold_and_print(rt, first(room, size)),
-        Loaded::Failed(cause) => text::causes::fail(rt, b"standard input", cause),
+        Ok(loaded) => fold_and_print(rt, first(room, loaded.size)),
+        Err(cause) => text::causes::fail(rt, b"standard input", cause),
     }
 }
 

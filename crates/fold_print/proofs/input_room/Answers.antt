@@ -1,8 +1,0 @@
--- `input_room` meets its contract.
--- Assumes nothing.
-use Rattle.std.proofs.Common.{ℕ, sym}
-use Rattle.std.proofs.Math.ListN.{length-replicate}
-use Rattle.fold_print.proofs.input_room.Goals as goal
-
-pub returns : goal.returns
-returns c = sym (length-replicate {A = ℕ} 65537 0)
