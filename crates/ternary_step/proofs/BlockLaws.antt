@@ -1,6 +1,6 @@
 -- The walk over the rows of a block in a step, and over the blocks: what each row asks, and what stands after one row more.
 -- Assumes nothing.
-use Prim.Native.Nat.{ℕ, ◌+◌, ◌-◌, ◌<◌, ◌≤◌, ◌%◌, ◌^◌}
+use Prim.Native.Nat.{ℕ, ◌+◌, ◌*◌, ◌<◌, ◌≤◌, ◌/◌, ◌^◌}
 use mathlib.Core.Path.{◌≡◌, ap, ◌∙◌, subst}
 use mathlib.Core.List.{List}
 use native.Mathlib.Omega.{arith}
@@ -8,9 +8,9 @@ use Rattle.memory.proofs.FrameLaws.{kept-none, kept-join}
 use Rattle.netlist.specs.Limits.{most_original_rows}
 use Rattle.netlist.specs.FileFormat.{row_offset, netlist_of}
 use Rattle.netlist.specs.WellFormed.{FoldableRows}
-use Rattle.blockfile.specs.BlockRows.{BlockStart, BlockRows}
+use Rattle.blockfile.specs.BlockRows.{BlockRows}
 use Rattle.blockfile.specs.Ready.{Ready}
-use Rattle.blockfile.proofs.BlockRowsLaws.{start_first, start-next, whole-more, block-whole, block-rest, first-most, RowsWalked, walk_none, walk-within, walk-offset, walk-small, walk_more, walk-all}
+use Rattle.blockfile.proofs.BlockRowsLaws.{RowsWalked, walk_none, walk-within, walk-offset, walk-small, walk_more, walk-all}
 use Rattle.fold_memory.specs.WorkMap.{value_offset}
 use Rattle.ternary_step.specs.StateMap.{registers_before, AtRow, Evaluated}
 use Rattle.ternary_step.proofs.StepLaws.{ValuesKept}
@@ -55,32 +55,43 @@ module _ {f : List ℕ} {n start stop first t : ℕ} {v : List ℕ} (R : Ready F
 
 -- ---- block by block
 
--- The walk over the blocks of a file of n rows has come to row `start`, which stands at `first`.
-pub record BlocksWalked (f : List ℕ) (n t : ℕ) (v w : List ℕ) (start first j : ℕ) : Type 0 where
-  pub block : BlockStart start first
-  pub upto : start ≤ n - n % 63
-  pub number : j ≡ registers_before (netlist_of f) start
+-- The walk over the blocks of a file has come to block k: memory was v and is w, and j registers stand before the block.
+pub record BlocksWalked (f : List ℕ) (t : ℕ) (v w : List ℕ) (k j : ℕ) : Type 0 where
+  pub number : j ≡ registers_before (netlist_of f) (63 * k)
   pub kept : ValuesKept v w
-  pub values : Evaluated (netlist_of f) w t start
+  pub values : Evaluated (netlist_of f) w t (63 * k)
 
-module _ {f : List ℕ} {n t : ℕ} {v : List ℕ} where
-  pub blocks-none : {j : ℕ} → j ≡ registers_before (netlist_of f) 0 → Evaluated (netlist_of f) v t 0 → BlocksWalked f n t v v 0 4 j
-  blocks-none number E = record { block = start_first; upto = omega arith; number = number; kept = kept-none (value_offset 0) (value_offset most_original_rows) v; values = E }
+-- The rows of a whole block, and those of the rest.
+pub block-rows : (n k : ℕ) → k < n / 63 → BlockRows n (63 * k) (63 * k + 63) (4 + 512 * k)
+block-rows n k less = record {
+  block = record { starts = omega arith; offset = omega arith };
+  from = omega arith;
+  few = omega arith;
+  within = omega arith;
+}
 
-  module _ {w : List ℕ} {start first j : ℕ} (U : BlocksWalked f n t v w start first j) where
-    -- The rows of a block, and those of the rest.
-    pub blocks-rows : start < n - n % 63 → BlockRows n start (start + 63) first
-    blocks-rows less = block-whole U.block n less
+pub rest-rows : (n : ℕ) → BlockRows n (63 * (n / 63)) n (4 + 512 * (n / 63))
+rest-rows n = record {
+  block = record { starts = omega arith; offset = omega arith };
+  from = omega arith;
+  few = omega arith;
+  within = omega arith;
+}
 
-    pub blocks-rest : n - n % 63 ≤ start → BlockRows n start n first
-    blocks-rest last = block-rest U.block n U.upto last
+module _ {f : List ℕ} {t : ℕ} {v : List ℕ} where
+  pub blocks-none : {j : ℕ} → j ≡ registers_before (netlist_of f) 0 → Evaluated (netlist_of f) v t 0 → BlocksWalked f t v v 0 j
+  blocks-none number E = record { number = number; kept = kept-none (value_offset 0) (value_offset most_original_rows) v; values = E }
 
-    pub blocks-small : Ready FoldableRows f n → first + 512 < 2 ^ 64
-    blocks-small R = omega (arith, first-most U.block n (omega (arith, U.upto)), R.file.few)
-
+  module _ {w : List ℕ} {k j : ℕ} (U : BlocksWalked f t v w k j) where
     -- One block more.
-    pub blocks_more : {w' : List ℕ} {j' : ℕ} → start < n - n % 63 → j' ≡ registers_before (netlist_of f) (start + 63) → ValuesKept w w' → Evaluated (netlist_of f) w' t (start + 63) → BlocksWalked f n t v w' (start + 63) (first + 512) j'
-    blocks_more {w'} less number K E = record { block = start-next U.block; upto = whole-more U.block n less; number = number; kept = kept-twice v w w' U.kept K; values = E }
+    pub blocks_more : {w' : List ℕ} {j' : ℕ} → j' ≡ registers_before (netlist_of f) (63 * k + 63) → ValuesKept w w' → Evaluated (netlist_of f) w' t (63 * k + 63) → BlocksWalked f t v w' (k + 1) j'
+    blocks_more {w'} number K E =
+        let next : 63 * k + 63 ≡ 63 * (k + 1) = omega arith in
+        record {
+          number = number ∙ ap (registers_before (netlist_of f)) next;
+          kept = kept-twice v w w' U.kept K;
+          values = subst (Evaluated (netlist_of f) w' t) next E;
+        }
 
     -- The rest too.
     pub blocks-kept : {w' : List ℕ} → ValuesKept w w' → ValuesKept v w'

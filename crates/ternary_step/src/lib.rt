@@ -80,19 +80,15 @@ fn row_value(work: &[u8], row: blockfile::Fields, base: usize, j: usize) -> u8
     requires { RowToEvaluate work.now row base j }
     ensures { result ≡ if_known row.kind (code_of (row_in work.now row base j)) no_code }
 {
-    let kind = row.kind;
-    let a = row.a;
-    let b = row.b;
-    let c = row.c;
-    match kind {
+    match row.kind {
         0 => 0,
         1 => 2,
         2 => register_code(work, base, j),
-        3 => and_value(work, a, b),
-        4 => xor_value(work, a, b),
-        5 => mux_value(work, a, b, c),
-        6 => literal_value(work, a),
-        7..=255 => return NO_CODE,
+        3 => and_value(work, row.a, row.b),
+        4 => xor_value(work, row.a, row.b),
+        5 => mux_value(work, row.a, row.b, row.c),
+        6 => literal_value(work, row.a),
+        7..=255 => NO_CODE,
     }
 }
 
@@ -146,12 +142,10 @@ fn evaluate_block(
     requires t_lt_last_state { (t < last_state) × Evaluated (netlist_of file.now) work.old t start }
     ensures { (result ≡ registers_before (netlist_of file.now) stop) × (KeptOutside (value_offset 0) (value_offset most_original_rows) work.old work.new × Evaluated (netlist_of file.now) work.new t stop) }
 {
-    let mut i = start;
     let mut offset = first;
     let mut j = before;
-    'rows: while i < stop {
+    for i in start..stop {
         j = evaluate_row(file, rows, i, offset, j, work, t);
-        i += 1;
         offset += ROW_BYTES;
     }
     j
@@ -163,17 +157,15 @@ fn evaluate(file: &[u8], rows: usize, work: &mut [u8], t: usize)
     requires t_lt_last_state { (t < last_state) × Evaluated (netlist_of file.now) work.old t 0 }
     ensures { KeptOutside (value_offset 0) (value_offset most_original_rows) work.old work.new × Evaluated (netlist_of file.now) work.new t rows }
 {
-    let rest = rows % BLOCK_ROWS;
-    let whole = rows - rest;
-    let mut start = 0;
-    let mut first = FIRST_ROW;
+    let blocks = rows / BLOCK_ROWS;
     let mut j = 0;
-    'each_block: while start < whole {
-        let stop = start + BLOCK_ROWS;
-        j = evaluate_block(file, rows, start, stop, first, j, work, t);
-        start = stop;
-        first += BLOCK_BYTES;
+    for block in 0..blocks {
+        let start = BLOCK_ROWS * block;
+        let first = FIRST_ROW + BLOCK_BYTES * block;
+        j = evaluate_block(file, rows, start, start + BLOCK_ROWS, first, j, work, t);
     }
+    let start = BLOCK_ROWS * blocks;
+    let first = FIRST_ROW + BLOCK_BYTES * blocks;
     evaluate_block(file, rows, start, rows, first, j, work, t);
 }
 
@@ -196,9 +188,7 @@ fn list_next(work: &mut [u8], j: usize, next: usize)
     requires { (j < most_original_registers) × ((next < 2 ^ 16) × (state_offset 0 ≤ length work.old)) }
     ensures { work.new ≡ sets work.old (next_offset j) (u16_bytes next) }
 {
-    let offset = NEXTS + 2 * j;
-    let literal = next as u32;
-    memory::write_u16(work, offset, literal);
+    memory::write_u16(work, NEXTS + 2 * j, next as u32);
 }
 
 // Puts the row in, if it is a register, as register j of state 0, and lists its next-value literal; answers the number of registers up to it.
@@ -208,12 +198,9 @@ fn start_row(file: &[u8], rows: usize, row: usize, j: usize, work: &mut [u8]) ->
     ensures { (result ≡ registers_before (netlist_of file.now) (row + 1)) × (KeptOutside (next_offset 0) (state_offset 1) work.old work.new × Started (netlist_of file.now) work.new (row + 1)) }
 {
     let fields = blockfile::read_row(file, row);
-    let kind = fields.kind;
-    let reset = fields.reset;
-    let next = fields.a;
-    if kind == 2 {
-        put_code(work, STATES, j, reset);
-        list_next(work, j, next);
+    if fields.kind == 2 {
+        put_code(work, STATES, j, fields.reset);
+        list_next(work, j, fields.a);
         return j + 1;
     }
     j
@@ -225,11 +212,9 @@ pub fn start(file: &[u8], rows: usize, work: &mut [u8]) -> usize
     requires started { Started (netlist_of file.now) work.old 0 }
     ensures { (result ≡ count_if is_register (netlist_of file.now)) × (KeptOutside (next_offset 0) (state_offset 1) work.old work.new × Started (netlist_of file.now) work.new rows) }
 {
-    let mut i = 0;
     let mut j = 0;
-    'rows: while i < rows {
+    for i in 0..rows {
         j = start_row(file, rows, i, j, work);
-        i += 1;
     }
     j
 }
@@ -242,13 +227,11 @@ fn pack_next(work: &mut [u8], n: usize, m: usize)
     ensures { KeptOutside (state_offset m) (state_offset m + state_bytes) work.old work.new × Packed work.new (state_offset m) (shown_codes work.old n) }
 {
     let base = fold_memory::state_offset(m);
-    let mut j = 0;
-    'registers: while j < n {
+    for j in 0..n {
         let at = NEXTS + 2 * j;
         let next = blockfile::field_at(work, at);
         let code = literal_value(work, next);
         put_code(work, base, j, code);
-        j += 1;
     }
 }
 

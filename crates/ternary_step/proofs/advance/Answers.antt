@@ -1,11 +1,8 @@
 -- `advance` meets its contract: step m - 1 is worked out from state m - 1, and what the listed literals show is state m.
 -- Assumes nothing.
-use Rattle.ternary_step.proofs.NextLaws.{evaluate-asks, pack-asks, advance-kept, advance-done}
+use Rattle.ternary_step.proofs.NextLaws.{pack-asks, advance-kept, advance-done}
 use borrow.Author.Rules.{rules}
 use Rattle.ternary_step.proofs.advance.Goals as goal
-
-pub evaluate-requires : goal.evaluate-requires
-evaluate-requires c = search (evaluate-asks, rules)
 
 pub pack_next-requires : goal.pack_next-requires
 pack_next-requires c = search pack-asks
