@@ -1,21 +1,22 @@
 -- How many periods divide a number, and the phase count: a period above 8 divides none of 1 to 8, so the periods up to 8 are enough.
 -- Assumes nothing.
-use Prim.Native.Nat.{ℕ, zero, suc, ◌+◌, ◌<◌, ◌≤◌, ◌%◌, ◌^◌}
+use Prim.Native.Nat.{ℕ, zero, suc, ◌+◌, ◌-◌, ◌<◌, ◌≤◌, ◌%◌}
 use mathlib.Core.Path.{◌≡◌, refl, sym, ap, ap₂, ◌∙◌}
 use mathlib.Core.Bool.{Bool, true, false, cond}
 use mathlib.Core.List.{List}
 use native.Mathlib.Omega.{arith}
 use native.Mathlib.Numerals.{add-one}
+use Rattle.std.proofs.Common.{add-zero}
 use native.Mathlib.Decide.{dec_lt}
 use native.Mathlib.Nat.{mod-eq_of_lt}
-use borrow.Author.Tests.{ne_eqb, lt-ltb, le-leb, lt-leb}
+use borrow.Author.Tests.{ne_eqb, lt-ltb, le-ltb, le-leb, lt-leb}
 use lib.Dec.{eqb, ltb}
 use lib.ListN.{length}
 use Rattle.memory.specs.Lists.{tabulate}
 use Rattle.memory.specs.Fields.{byte_at}
 use Rattle.memory.proofs.TestLaws.{cond-case}
 use Rattle.memory.proofs.ListLaws.{count-last}
-use Rattle.netlist.specs.Limits.{most_phases, most_original_rows}
+use Rattle.netlist.specs.Limits.{most_phases}
 use Rattle.netlist.specs.Rows.{Row}
 use Rattle.lasso.specs.Generators.{period_of, periods_of, is_used, used_count, is_better, best_phase_count, phase_count}
 use Rattle.fold_memory.specs.WorkMap.{value_offset}
@@ -48,22 +49,13 @@ used-small n p h l = elim (dec_lt most_phases p) [
 count-more : (n : ℕ) (g : ℕ → ℕ) (i c b : ℕ) → c ≡ used_count (tabulate i g) n → b ≡ cond (is_used n (g i)) 1 0 → c + b ≡ used_count (tabulate (i + 1) g) n
 count-more n g i c b p q = rw (add-one i) (ap₂ ◌+◌ p q ∙ sym (count-last (is_used n) (tabulate i g) (g i)))
 
-one_at_most : (t : Bool) (b : ℕ) → b ≡ cond t 1 0 → b ≤ 1
-one_at_most t b e = rw e (cond-case (λ (k : ℕ). k ≤ 1) t 1 0 (λ _. omega arith) (λ _. omega arith))
+-- One row more: x is its period.
+module _ (w : List ℕ) (n i used x : ℕ) (counted : used ≡ used_count (period_bytes w i) n) (read : x ≡ byte_at w (value_offset i)) where
+  pub used-next : is_used n x ≡ true → used + 1 ≡ used_count (period_bytes w (i + 1)) n
+  used-next e = count-more n (λ y. byte_at w (value_offset y)) i used 1 counted (rw (← read, e) refl)
 
--- One row more: x is its period, and b is 1 if that is used.
-module _ (w : List ℕ) (n i used b x : ℕ) (t : Bool) (bit : b ≡ cond t 1 0) where
-  pub used-next : used ≡ used_count (period_bytes w i) n → x ≡ byte_at w (value_offset i) → t ≡ is_used n x → used + b ≡ used_count (period_bytes w (i + 1)) n
-  used-next h e k = count-more n (λ y. byte_at w (value_offset y)) i used b h (bit ∙ ap (λ (s : Bool). cond s 1 0) (k ∙ ap (is_used n) e))
-
-pub used-few : (used i b : ℕ) (t : Bool) → used ≤ i → b ≡ cond t 1 0 → used + b ≤ i + 1
-used-few used i b t h e = omega (arith, h, one_at_most t b e)
-
-pub used-fits : (used i b rows : ℕ) (t : Bool) → used ≤ i → i < rows → rows ≤ most_original_rows → b ≡ cond t 1 0 → used + b < 2 ^ 64
-used-fits used i b rows t h l m e = omega (arith, h, one_at_most t b e)
-
-pub used_all : (w : List ℕ) (used i rows n : ℕ) → i ≤ rows → rows ≤ i → used ≡ used_count (period_bytes w i) n → used ≡ used_count (period_bytes w rows) n
-used_all w used i rows n a b h = let e : i ≡ rows = omega arith in h ∙ ap (λ (k : ℕ). used_count (period_bytes w k) n) e
+  pub used-other : is_used n x ≡ false → used ≡ used_count (period_bytes w (i + 1)) n
+  used-other e = sym (add-zero used) ∙ count-more n (λ y. byte_at w (value_offset y)) i used 0 counted (rw (← read, e) refl)
 
 count_same : (n : ℕ) (g h : ℕ → ℕ) (m : ℕ) → ((i : ℕ) → i < m → is_used n (g i) ≡ is_used n (h i)) → used_count (tabulate m g) n ≡ used_count (tabulate m h) n
 count_same n g h zero e = refl
@@ -78,24 +70,23 @@ pub best-start : (ps : List ℕ) → 1 ≡ best_phase_count ps 1
 unfolding best_phase_count
 best-start ps = cond-case (λ (k : ℕ). 1 ≡ k) (is_better ps 1 1) 1 1 (λ _. refl) (λ _. refl)
 
-best-more : (ps : List ℕ) (tried best most used best' most' : ℕ) → best ≡ best_phase_count ps tried → most ≡ used_count ps best → used ≡ used_count ps (tried + 1) → best' ≡ cond (ltb most used) (tried + 1) best → most' ≡ cond (ltb most used) used most
-    → (best' ≡ best_phase_count ps (tried + 1)) × (most' ≡ used_count ps best')
-unfolding best_phase_count
-best-more ps tried best most used best' most' e f g p q = (p ∙ rw (f, g, e, add-one tried) refl, go (ltb most used) p q)
-  where
-    go : (t : Bool) → best' ≡ cond t (tried + 1) best → most' ≡ cond t used most → most' ≡ used_count ps best'
-    go true a b = b ∙ g ∙ ap (used_count ps) (sym a)
-    go false a b = b ∙ f ∙ ap (used_count ps) (sym a)
+-- n is tried, after 1 to n - 1: `used` is its count.
+module _ (ps : List ℕ) (n best most used : ℕ) (from : 2 ≤ n) (is-best : best ≡ best_phase_count ps (n - 1)) (is-most : most ≡ used_count ps best) (is-used : used ≡ used_count ps n) where
+  tried-next : best_phase_count ps (n + 1 - 1) ≡ cond (ltb most used) n best
+  unfolding best_phase_count
+  tried-next =
+      let e : n + 1 - 1 ≡ suc (n - 1) = omega arith in
+      let q : suc (n - 1) ≡ n = omega arith in
+      rw (e, ← is-best, q, ← is-most, ← is-used) refl
 
-module _ (ps : List ℕ) (tried best most used best' most' : ℕ) (is-best : best ≡ best_phase_count ps tried) (is-most : most ≡ used_count ps best) (is-used : used ≡ used_count ps (tried + 1)) (new : best' ≡ cond (ltb most used) (tried + 1) best) where
-  pub best-next : best' ≡ best_phase_count ps (tried + 1)
-  best-next = (best-more ps tried best most used best' _ is-best is-most is-used new refl).0
+  pub best-next : most < used → n ≡ best_phase_count ps (n + 1 - 1)
+  best-next h = sym (tried-next ∙ rw (lt-ltb most used h) refl)
 
-  pub most-next : most' ≡ cond (ltb most used) used most → most' ≡ used_count ps best'
-  most-next e = (best-more ps tried best most used best' most' is-best is-most is-used new e).1
+  pub best-kept : used ≤ most → best ≡ best_phase_count ps (n + 1 - 1)
+  best-kept h = sym (tried-next ∙ rw (le-ltb most used h) refl)
 
-pub best-all : (ps : List ℕ) (best tried : ℕ) → tried ≤ most_phases → most_phases ≤ tried → best ≡ best_phase_count ps tried → best ≡ best_phase_count ps most_phases
-best-all ps best tried a b h = let e : tried ≡ most_phases = omega arith in h ∙ ap (best_phase_count ps) e
+pub best-all : (ps : List ℕ) (best n : ℕ) → n ≤ suc most_phases → most_phases < n → best ≡ best_phase_count ps (n - 1) → best ≡ best_phase_count ps most_phases
+best-all ps best n a b h = let e : n - 1 ≡ most_phases = omega arith in h ∙ ap (best_phase_count ps) e
 
 -- Lists of periods whose counts for 1 to 8 are equal.
 module _ (ps qs : List ℕ) (same : (n : ℕ) → 1 ≤ n → n ≤ most_phases → used_count ps n ≡ used_count qs n) where

@@ -24,10 +24,7 @@ fn holds_as(work: &[u8], j: usize, t: usize, u: usize) -> bool
 {
     let code = ternary_step::register_code(work, fold_memory::state_offset(t), j);
     let other = ternary_step::register_code(work, fold_memory::state_offset(u), j);
-    if code < 2 {
-        return code == other;
-    }
-    false
+    code < 2 && code == other
 }
 
 // The remainder by p of the number after one whose remainder is u.
@@ -47,14 +44,12 @@ fn repeats(work: &[u8], m: usize, j: usize, p: usize) -> bool
     requires le_p { (1 ≤ p) × (p ≤ most_phases) }
     ensures { result ≡ repeats_in work.now m j p }
 {
-    let mut t = 0;
     let mut u = 0;
-    'states: while t < m {
+    for t in 0..m {
         if !holds_as(work, j, t, u) {
             return false;
         }
         u = next_phase(u, p);
-        t += 1;
     }
     true
 }
@@ -65,10 +60,7 @@ fn is_generator(work: &[u8], m: usize, cycle: usize, j: usize, p: usize) -> bool
     requires le_p { (1 ≤ p) × (p ≤ most_phases) }
     ensures { result ≡ generator_in work.now m cycle j p }
 {
-    if cycle % p == 0 {
-        return repeats(work, m, j, p);
-    }
-    false
+    cycle % p == 0 && repeats(work, m, j, p)
 }
 
 // The period of register j, if it is 8 at most; else 0.
@@ -76,12 +68,10 @@ fn short_period(work: &[u8], m: usize, cycle: usize, j: usize) -> u8
     requires { (m ≤ last_state) × ((j < most_original_registers) × (fold_work_bytes ≤ length work.now)) }
     ensures { result ≡ period_in work.now m cycle j }
 {
-    let mut p = 1;
-    'lengths: while p <= MOST_PHASES {
+    for p in 1..=MOST_PHASES {
         if is_generator(work, m, cycle, j, p) {
             return p as u8;
         }
-        p += 1;
     }
     0
 }
@@ -101,11 +91,9 @@ fn period_row(
     ensures { (result ≡ registers_before (netlist_of file.now) (row + 1)) × (KeptOutside (value_offset 0) (value_offset most_original_rows) work.old work.new × PeriodPart (netlist_of file.now) work.new (row + 1)) }
 {
     let fields = blockfile::read_row(file, row);
-    let kind = fields.kind;
     let offset = VALUES + row;
-    if kind == 2 {
-        let period = short_period(work, m, cycle, j);
-        work[offset] = period;
+    if fields.kind == 2 {
+        work[offset] = short_period(work, m, cycle, j);
         return j + 1;
     }
     work[offset] = 0;
@@ -119,11 +107,9 @@ pub fn find_periods(file: &[u8], rows: usize, work: &mut [u8], stem: usize, cycl
     ensures { KeptOutside (value_offset 0) (value_offset most_original_rows) work.old work.new × PeriodPart (netlist_of file.now) work.new rows }
 {
     let m = stem + cycle;
-    let mut i = 0;
     let mut j = 0;
-    'rows: while i < rows {
+    for i in 0..rows {
         j = period_row(file, rows, i, j, work, m, cycle);
-        i += 1;
     }
 }
 
@@ -133,20 +119,7 @@ pub fn find_periods(file: &[u8], rows: usize, work: &mut [u8], stem: usize, cycl
 pub fn is_used(n: usize, p: usize) -> bool
     ensures { result ≡ is_used n p }
 {
-    if p == 0 {
-        return false;
-    }
-    n % p == 0
-}
-
-// x if b holds, else y.
-fn choose(b: bool, x: usize, y: usize) -> usize
-    ensures { result ≡ cond b x y }
-{
-    if b {
-        return x;
-    }
-    y
+    p != 0 && n % p == 0
 }
 
 // How many of the rows' periods divide n.
@@ -155,11 +128,11 @@ fn count_used(work: &[u8], rows: usize, n: usize) -> usize
     ensures { result ≡ used_count (period_bytes work.now rows) n }
 {
     let mut used = 0;
-    let mut i = 0;
-    'rows: while i < rows {
-        let period = memory::read_u8(work, VALUES + i) as usize;
-        used = used + choose(is_used(n, period), 1, 0);
-        i += 1;
+    for i in 0..rows {
+        let period = usize::from(work[VALUES + i]);
+        if is_used(n, period) {
+            used += 1;
+        }
     }
     used
 }
@@ -171,14 +144,12 @@ fn best_phases(work: &[u8], rows: usize) -> usize
 {
     let mut best = 1;
     let mut most = count_used(work, rows, 1);
-    let mut tried = 1;
-    'counts: while tried < MOST_PHASES {
-        let n = tried + 1;
+    for n in 2..=MOST_PHASES {
         let used = count_used(work, rows, n);
-        let more = most < used;
-        best = choose(more, n, best);
-        most = choose(more, used, most);
-        tried = n;
+        if most < used {
+            best = n;
+            most = used;
+        }
     }
     best
 }

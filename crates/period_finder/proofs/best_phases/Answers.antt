@@ -1,13 +1,10 @@
-use Prim.Native.Nat.{◌-◌}
 use borrow.Author.Rules.{rules}
-use Rattle.period_finder.proofs.CountLaws.{best-start, best-next, most-next, best-all}
+use Rattle.period_finder.proofs.CountLaws.{best-start, best-next, best-kept}
 use Rattle.period_finder.proofs.best_phases.Goals as goal
+use Rattle.period_finder.proofs.best_phases.Goals.{then-most-used, else-most-used}
 
-pub counts-init : goal.counts-init
-counts-init c = search (best-start, rules)
+pub loop-n-init : goal.loop-n-init
+loop-n-init c = search (best-start, rules)
 
-pub counts-preserved : goal.counts-preserved
-counts-preserved c = search (best-next, most-next, rules)
-
-pub returns : goal.returns
-returns c = search best-all
+pub loop-n-preserved : goal.loop-n-preserved
+loop-n-preserved c = search (best-next, best-kept, rules)
