@@ -24,16 +24,6 @@ use Rattle.period_finder.specs.PeriodStage.{lasso_in, small_period, PeriodPart, 
 
 -- ---- one period
 
-pub used-zero : (n p : ℕ) → p ≡ 0 → false ≡ is_used n p
-used-zero n p e = rw e refl
-
-pub used-some : (n p : ℕ) → (p ≡ 0 → ⊥) → eqb (n % p) 0 ≡ is_used n p
-used-some n p h = sym (rw (lt-ltb 0 p (positive p h)) refl)
-  where
-    positive : (p : ℕ) → (p ≡ 0 → ⊥) → 0 < p
-    positive zero n = absurd (n refl)
-    positive (suc p) n = omega arith
-
 -- A period above n, which is not 0, does not divide it.
 pub used-above : (n p : ℕ) → 1 ≤ n → n < p → is_used n p ≡ false
 used-above n p h l = rw (lt-ltb 0 p (omega arith), mod-eq_of_lt l, ne_eqb n 0 (λ (e : n ≡ 0). omega arith)) refl
@@ -84,9 +74,6 @@ module _ (ps : List ℕ) (n best most used : ℕ) (from : 2 ≤ n) (is-best : be
 
   pub best-kept : used ≤ most → best ≡ best_phase_count ps (n + 1 - 1)
   best-kept h = sym (tried-next ∙ rw (le-ltb most used h) refl)
-
-pub best-all : (ps : List ℕ) (best n : ℕ) → n ≤ suc most_phases → most_phases < n → best ≡ best_phase_count ps (n - 1) → best ≡ best_phase_count ps most_phases
-best-all ps best n a b h = let e : n - 1 ≡ most_phases = omega arith in h ∙ ap (best_phase_count ps) e
 
 -- Lists of periods whose counts for 1 to 8 are equal.
 module _ (ps qs : List ℕ) (same : (n : ℕ) → 1 ≤ n → n ≤ most_phases → used_count ps n ≡ used_count qs n) where

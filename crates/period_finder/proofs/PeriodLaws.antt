@@ -39,26 +39,12 @@ module _ (w : List ℕ) (j t u x base : ℕ) (at-state : base ≡ state_offset t
   code_is : x ≡ code_at w (state_offset t) j
   code_is = read ∙ ap (λ (o : ℕ). code_at w o j) at-state
 
-  pub holds-known : (y other : ℕ) → other ≡ state_offset u → y ≡ code_at w other j → x < 2 → eqb x y ≡ holds_as w j t u
-  holds-known y other at_other q h =
-      let k : y ≡ code_at w (state_offset u) j = q ∙ ap (λ (o : ℕ). code_at w o j) at_other in
-      rw (← code_is, ← k, lt-ltb x 2 h) refl
-
-  pub holds-unknown : 2 ≤ x → false ≡ holds_as w j t u
-  holds-unknown h = rw (← code_is, le-ltb x 2 h) refl
-
 -- A number's remainder.
 pub phase-below : (t u p : ℕ) → u ≡ t % p → 1 ≤ p → u < p
 phase-below t u p e h = rw e (mod-lt t h)
 
 pub phase-early : (t u p m : ℕ) → u ≡ t % p → t < m → m ≤ last_state → u < last_state
 phase-early t u p m e h l = omega (arith, e, mod-le t p)
-
-pub phase-wraps : (u p : ℕ) → u + 1 ≡ p → 0 ≡ cond (eqb (u + 1) p) 0 (u + 1)
-phase-wraps u p e = rw (eq-eqb (u + 1) p e) refl
-
-pub phase-counts : (u p : ℕ) → (u + 1 ≡ p → ⊥) → u + 1 ≡ cond (eqb (u + 1) p) 0 (u + 1)
-phase-counts u p e = rw (ne_eqb (u + 1) p e) refl
 
 -- The remainder of the next number.
 pub mod-next : (t u p r : ℕ) → 0 < p → u ≡ t % p → r ≡ cond (eqb (u + 1) p) 0 (u + 1) → r ≡ (t + 1) % p
@@ -95,16 +81,7 @@ module _ (w : List ℕ) (j p t u : ℕ) (r : Bool) (phase : u ≡ t % p) (holds 
   pub repeats-more : repeats_in w t j p ≡ true → not r ≡ false → repeats_in w (t + 1) j p ≡ true
   repeats-more h e = all_below-more t (λ x. holds_as w j x (x % p)) h (holds-so ∙ not-false r e)
 
-pub repeats-all : (w : List ℕ) (j p t m : ℕ) → t ≤ m → m ≤ t → repeats_in w t j p ≡ true → true ≡ repeats_in w m j p
-repeats-all w j p t m a b h = let e : t ≡ m = omega arith in sym (subst (λ (k : ℕ). repeats_in w k j p ≡ true) e h)
-
 -- ---- the first generator
-
-pub generator-divides : (w : List ℕ) (m c j p : ℕ) (r : Bool) → c % p ≡ 0 → r ≡ repeats_in w m j p → r ≡ generator_in w m c j p
-generator-divides w m c j p r e h = rw (eq-eqb (c % p) 0 e) h
-
-pub generator-no : (w : List ℕ) (m c j p : ℕ) → (c % p ≡ 0 → ⊥) → false ≡ generator_in w m c j p
-generator-no w m c j p e = rw (ne_eqb (c % p) 0 e) refl
 
 period-found : (f : ℕ → Bool) (p : ℕ) → 1 ≤ p → p ≤ most_phases → ((q : ℕ) → 1 ≤ q → q < p → f q ≡ false) → f p ≡ true → p ≡ small_period (first_from 1 most_phases f)
 period-found f p a b h e = sym (rw (first_found 1 most_phases f p a (omega arith) h e, le-leb p most_phases b) refl)
@@ -149,9 +126,6 @@ module _ {rows : List Row} {w : List ℕ} (L : Lassoed rows w) where
   pub lasso-short : ((lasso_in rows).stem + (lasso_in rows).cycle ≤ last_state) × (0 < (lasso_in rows).cycle)
   lasso-short = let e = is-lasso.repeat.earlier in (is-lasso.within, omega arith)
 
-  pub periods-start : PeriodPart rows w 0
-  periods-start = record { lassoed = L; periods = λ x h. absurd (omega arith) }
-
   module _ {i j : ℕ} (few : count_if is_register rows ≤ most_original_registers) (within : i < length rows) (number : j ≡ registers_before rows i) (register : is_register (row_at rows i) ≡ true) where
     -- What the memory holds of it in state t.
     pub lasso-code : (t : ℕ) → t < (lasso_in rows).stem + (lasso_in rows).cycle → code_at w (state_offset t) j ≡ code_of (state_value rows i t)
@@ -182,9 +156,6 @@ module _ {rows : List Row} {w : List ℕ} (L : Lassoed rows w) where
       → x ≡ cond b (period_in w ((lasso_in rows).stem + (lasso_in rows).cycle) (lasso_in rows).cycle j) 0 → x ≡ small_period (period_of rows (lasso_in rows) i)
   period-byte few within number x true r e = e ∙ register-period few within number r
   period-byte {i} few within number x false r e = e ∙ sym (rw (period-other rows (lasso_in rows) i r) refl)
-
-pub periods-all : {rows : List Row} {w : List ℕ} {i n : ℕ} → i ≤ n → n ≤ i → PeriodPart rows w i → PeriodPart rows w n
-periods-all {rows} {w} {i} {n} a b P = let e : i ≡ n = omega arith in subst (PeriodPart rows w) e P
 
 -- ---- row by row
 

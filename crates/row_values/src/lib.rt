@@ -30,7 +30,7 @@ fn literal_value(work: &[u8], from: usize, literal: usize) -> u8
 {
     let node = literal / 2;
     let at = from + node;
-    let value = work[at] as usize;
+    let value = usize::from(work[at]);
     let sum = value + literal;
     (sum % 2) as u8
 }
@@ -55,7 +55,7 @@ fn xor_of(x: u8, y: u8) -> u8
     requires { (x ≤ 1) × (y ≤ 1) }
     ensures { result ≡ bit_byte (bool_xor (bit x) (bit y)) }
 {
-    if x == y { 0 } else { 1 }
+    u8::from(x != y)
 }
 
 fn mux_of(selector: u8, x: u8, y: u8) -> u8
@@ -122,7 +122,7 @@ pub fn row_value(
             mux_of(selector, x, y)
         }
         6 => field_value(file, at_a, work, current),
-        7..=255 => return NO_VALUE,
+        7..=255 => NO_VALUE,
     }
 }
 
@@ -155,6 +155,5 @@ pub fn unknown_at(file: &[u8], row: usize) -> usize
     let second = offset + 1;
     let kind = file[offset];
     let reset = file[second];
-    let unknown = blockfile::both(kind == 2, reset == 2);
-    blockfile::count::one_if(unknown)
+    usize::from(kind == 2 && reset == 2)
 }

@@ -1,6 +1,6 @@
 -- The walk over the rows of a block in a step, and over the blocks: what each row asks, and what stands after one row more.
 -- Assumes nothing.
-use Prim.Native.Nat.{ℕ, ◌+◌, ◌-◌, ◌<◌, ◌≤◌, ◌%◌, ◌^◌}
+use Prim.Native.Nat.{ℕ, ◌+◌, ◌*◌, ◌<◌, ◌≤◌, ◌/◌, ◌^◌}
 use mathlib.Core.Path.{◌≡◌, refl, sym, ap, ◌∙◌, subst}
 use mathlib.Core.Bool.{cond}
 use mathlib.Core.List.{List}
@@ -15,10 +15,10 @@ use Rattle.netlist.specs.FileFormat.{row_offset, netlist_of}
 use Rattle.netlist.specs.RunLayout.{place_among}
 use Rattle.netlist.specs.WellFormed.{CheckedRows}
 use Rattle.blockfile.specs.RowCode.{if_known}
-use Rattle.blockfile.specs.BlockRows.{BlockStart, BlockRows}
+use Rattle.blockfile.specs.BlockRows.{BlockRows}
 use Rattle.blockfile.specs.Ready.{Ready}
 use Rattle.blockfile.proofs.RowCodeLaws.{kind-known}
-use Rattle.blockfile.proofs.BlockRowsLaws.{start_first, start-next, whole-more, block-whole, block-rest, first-most, RowsWalked, walk_none, walk-within, walk-offset, walk-small, walk_more, walk-all}
+use Rattle.blockfile.proofs.BlockRowsLaws.{RowsWalked, walk_none, walk-within, walk-offset, walk-small, walk_more, walk-all}
 use Rattle.row_values.specs.Values.{bit_byte, bit_bytes, no_value, value_in, RowInStep}
 use Rattle.row_values.specs.declared.Step.{Step}
 use Rattle.row_values.proofs.BitLaws.{byte-most, binary-bytes}
@@ -107,39 +107,56 @@ module _ {f inputs : List ℕ} {s : Step} {start stop first : ℕ} {w₀ : List 
 pub ready-all : {f : List ℕ} {n : ℕ} → Ready CheckedRows f n → Ready CheckedRows f (length (netlist_of f))
 ready-all {f} N = subst (Ready CheckedRows f) N.file.count N
 
--- The walk over the blocks has come to row `start`, which stands at `first`: memory was v and is w.
-pub record BlocksWalked (f inputs : List ℕ) (n : ℕ) (s : Step) (v w : List ℕ) (start first used : ℕ) : Type 0 where
-  pub block : BlockStart start first
-  pub upto : start ≤ n - n % 63
-  pub used-is : used ≡ place_among is_input (netlist_of f) start
+-- The walk over the blocks has come to block k: memory was v and is w.
+pub record BlocksWalked (f inputs : List ℕ) (s : Step) (v w : List ℕ) (k used : ℕ) : Type 0 where
+  pub used-is : used ≡ place_among is_input (netlist_of f) (63 * k)
   pub room : length w ≡ length v
-  pub values : ValuesStand f inputs s v start w
+  pub values : ValuesStand f inputs s v (63 * k) w
+
+module _ {f : List ℕ} {n : ℕ} (N : Ready CheckedRows f n) where
+  -- The rows of a whole block, and those of the rest.
+  pub block-rows : (k : ℕ) → k < n / 63 → BlockRows (length (netlist_of f)) (63 * k) (63 * k + 63) (4 + 512 * k)
+  block-rows k less = record {
+    block = record { starts = omega arith; offset = omega arith };
+    from = omega arith;
+    few = omega arith;
+    within = omega (arith, N.file.count);
+  }
+
+  pub rest-rows : BlockRows (length (netlist_of f)) (63 * (n / 63)) n (4 + 512 * (n / 63))
+  rest-rows = record {
+    block = record { starts = omega arith; offset = omega arith };
+    from = omega arith;
+    few = omega arith;
+    within = omega (arith, N.file.count);
+  }
+
+  pub block-small : (k : ℕ) → k ≤ n / 63 → 4 + 512 * k < 2 ^ 64
+  block-small k h = omega (arith, N.file.few)
 
 module _ {f inputs : List ℕ} {n : ℕ} {s : Step} {v : List ℕ} (N : Ready CheckedRows f n) (H : TwoHalves n s v) where
-  pub blocks-none : BlocksWalked f inputs n s v v 0 4 0
-  blocks-none = record { block = start_first; upto = omega arith; used-is = refl; room = refl; values = evaluate-none f n N inputs s v }
+  pub blocks-none : BlocksWalked f inputs s v v 0 0
+  blocks-none = record { used-is = refl; room = refl; values = evaluate-none f n N inputs s v }
 
-  module _ {w : List ℕ} {start first used : ℕ} (U : BlocksWalked f inputs n s v w start first used) where
-    -- The rows of a block, and those of the rest.
-    pub blocks-rows : start < n - n % 63 → BlockRows (length (netlist_of f)) start (start + 63) first
-    blocks-rows less = subst (λ (m : ℕ). BlockRows m start (start + 63) first) N.file.count (block-whole U.block n less)
-
-    pub blocks-rest : n - n % 63 ≤ start → BlockRows (length (netlist_of f)) start n first
-    blocks-rest last = subst (λ (m : ℕ). BlockRows m start n first) N.file.count (block-rest U.block n U.upto last)
-
+  module _ {w : List ℕ} {k used : ℕ} (U : BlocksWalked f inputs s v w k used) where
     pub blocks-halves : TwoHalves (length (netlist_of f)) s w
     blocks-halves =
-        let xs = values_before (netlist_of f) inputs v s start in
+        let xs = values_before (netlist_of f) inputs v s (63 * k) in
         subst (λ (m : ℕ). TwoHalves m s w) N.file.count (halves-written n s v w s.current (bit_bytes xs) H (binary-bytes xs) U.values.values)
 
-    pub blocks-small : first + 512 < 2 ^ 64
-    blocks-small = omega (arith, first-most U.block n (omega (arith, U.upto)), N.file.few)
-
     -- One block more.
-    pub blocks_more : {w' : List ℕ} {more : ℕ} → start < n - n % 63 → length w' ≡ length w → more ≡ place_among is_input (netlist_of f) (start + 63) → ((u : List ℕ) → ValuesStand f inputs s u start w → ValuesStand f inputs s u (start + 63) w')
-        → BlocksWalked f inputs n s v w' (start + 63) (first + 512) more
-    blocks_more less e em put = record { block = start-next U.block; upto = whole-more U.block n less; used-is = em; room = e ∙ U.room; values = put v U.values }
+    pub blocks_more : {w' : List ℕ} {more : ℕ} → length w' ≡ length w → more ≡ place_among is_input (netlist_of f) (63 * k + 63) → ((u : List ℕ) → ValuesStand f inputs s u (63 * k) w → ValuesStand f inputs s u (63 * k + 63) w')
+        → BlocksWalked f inputs s v w' (k + 1) more
+    blocks_more {w'} e em put =
+        let next : 63 * k + 63 ≡ 63 * (k + 1) = omega arith in
+        record {
+          used-is = em ∙ ap (place_among is_input (netlist_of f)) next;
+          room = e ∙ U.room;
+          values = subst (λ (i : ℕ). ValuesStand f inputs s v i w') next (put v U.values);
+        }
 
     -- The rest too.
-    pub blocks-all : {w' : List ℕ} → ((u : List ℕ) → ValuesStand f inputs s u start w → ValuesStand f inputs s u n w') → w' ≡ sets v s.current (bit_bytes (step_from (netlist_of f) inputs v s))
-    blocks-all {w'} put = evaluate-all f n N inputs s v w' (put v U.values)
+    pub blocks-all : k ≤ n / 63 → n / 63 ≤ k → {w' : List ℕ} → ((u : List ℕ) → ValuesStand f inputs s u (63 * (n / 63)) w → ValuesStand f inputs s u n w') → w' ≡ sets v s.current (bit_bytes (step_from (netlist_of f) inputs v s))
+    blocks-all upto last {w'} put =
+        let e : k ≡ n / 63 = omega arith in
+        evaluate-all f n N inputs s v w' (put v (subst (λ (i : ℕ). ValuesStand f inputs s v (63 * i) w) e U.values))

@@ -43,19 +43,14 @@ fn evaluate_rows(
     requires two_halves { TwoHalves (length (netlist_of file.now)) step work.old }
     ensures { (result ≡ place_among is_input (netlist_of file.now) stop) × ((v : List ℕ) → ValuesStand file.now inputs.now step v start work.old → ValuesStand file.now inputs.now step v stop work.new) }
 {
-    let current = step.current;
-    let mut row = start;
     let mut offset = first;
     let mut used = before;
-    'rows: while row < stop {
+    for row in start..stop {
         let kind = file[offset];
         let value = row_values::row_value(file, row, offset, kind, inputs, used, work, step);
-        let more = blockfile::count::one_if(kind == 1);
-        let target = current + row;
-        work[target] = value;
-        used += more;
+        work[step.current + row] = value;
+        used += blockfile::count::one_if(kind == 1);
         offset += ROW_BYTES;
-        row += 1;
     }
     used
 }
@@ -65,17 +60,16 @@ fn evaluate(file: &[u8], rows: usize, inputs: &[u8], work: &mut [u8], step: Step
     requires { Ready CheckedRows file.now rows × (InputsFit file.now inputs.now step × TwoHalves rows step work.old) }
     ensures { work.new ≡ sets work.old step.current (bit_bytes (step_from (netlist_of file.now) inputs.now work.old step)) }
 {
-    let rest = rows % BLOCK_ROWS;
-    let whole = rows - rest;
-    let mut start = 0;
-    let mut first = FIRST_ROW;
+    let blocks = rows / BLOCK_ROWS;
     let mut used = 0;
-    'each_block: while start < whole {
+    for block in 0..blocks {
+        let start = BLOCK_ROWS * block;
         let stop = start + BLOCK_ROWS;
-        used = evaluate_rows(file, start, stop, first, inputs, used, &mut *work, step);
-        start = stop;
-        first += BLOCK_BYTES;
+        let first = FIRST_ROW + BLOCK_BYTES * block;
+        used = evaluate_rows(file, start, stop, first, inputs, used, work, step);
     }
+    let start = BLOCK_ROWS * blocks;
+    let first = FIRST_ROW + BLOCK_BYTES * blocks;
     evaluate_rows(file, start, rows, first, inputs, used, work, step);
 }
 
@@ -85,15 +79,10 @@ fn start(file: &[u8], rows: usize, choices: &[u8], work: &mut [u8])
     requires binary { IsBinary choices.now × (count_if is_unknown (netlist_of file.now) ≤ length choices.now) }
     ensures { work.new ≡ sets work.old rows (bit_bytes (map (reset_value bool_logic (reset_choices (netlist_of file.now) choices.now)) (netlist_of file.now))) }
 {
-    let mut row = 0;
     let mut choice = 0;
-    'rows: while row < rows {
-        let first = row_values::start_value(file, row, choices, choice);
-        let unknown = row_values::unknown_at(file, row);
-        let held = rows + row;
-        work[held] = first;
-        choice += unknown;
-        row += 1;
+    for row in 0..rows {
+        work[rows + row] = row_values::start_value(file, row, choices, choice);
+        choice += row_values::unknown_at(file, row);
     }
 }
 
@@ -102,13 +91,7 @@ fn copy_outputs(work: &[u8], from: usize, count: usize, res: &mut [u8], to: usiz
     requires { (from + count ≤ length work.now) × (to + count ≤ length res.old) }
     ensures { res.new ≡ sets res.old to (take count (drop from work.now)) }
 {
-    let mut copied = 0;
-    'outputs: while copied < count {
-        let source = from + copied;
-        let target = to + copied;
-        res[target] = work[source];
-        copied += 1;
-    }
+    res[to..to + count].copy_from_slice(&work[from..from + count]);
 }
 
 // One step: the rows' values, and the outputs' bytes from byte `to` of result on.
@@ -127,7 +110,7 @@ fn run_step(
 {
     let outputs = rows - nodes;
     let shown = step.current + nodes;
-    evaluate(file, rows, inputs, &mut *work, step);
+    evaluate(file, rows, inputs, work, step);
     copy_outputs(work, shown, outputs, res, to);
 }
 
@@ -136,7 +119,7 @@ fn next_step(step: Step, base: usize) -> Step
     ensures { result ≡ next_step step base }
 {
     Step {
-        base: base,
+        base,
         current: step.previous,
         previous: step.current,
         initial: false,
@@ -156,11 +139,13 @@ pub fn run_steps(
     requires { Given file.now sizes.rows sizes.nodes sizes.inputs steps choices.now inputs.now res.old × ValuesRoom sizes.rows work.old }
     ensures { res.new ≡ run_bytes (netlist_of file.now) choices.now inputs.now steps ++ drop (steps * count_if is_output (netlist_of file.now)) res.old }
 {
-    let rows = sizes.rows;
-    let nodes = sizes.nodes;
-    let inputs_a_step = sizes.inputs;
+    let Sizes {
+        rows,
+        nodes,
+        inputs: inputs_a_step,
+    } = sizes;
     let outputs = rows - nodes;
-    start(file, rows, choices, &mut *work);
+    start(file, rows, choices, work);
     let mut step = Step {
         base: 0,
         current: 0,
@@ -168,12 +153,9 @@ pub fn run_steps(
         initial: true,
     };
     let mut to = 0;
-    let mut done = 0;
-    'steps: while done < steps {
-        run_step(file, rows, nodes, inputs, &mut *res, to, &mut *work, step);
-        let base = step.base + inputs_a_step;
-        step = next_step(step, base);
+    for _done in 0..steps {
+        run_step(file, rows, nodes, inputs, res, to, work, step);
+        step = next_step(step, step.base + inputs_a_step);
         to += outputs;
-        done += 1;
     }
 }

@@ -38,17 +38,12 @@ module _ {f : List ℕ} {n start stop first t : ℕ} {v : List ℕ} (R : Ready F
       pub walked_row : AtRow f n i j
       walked_row = record { ready = R; within = walk-within B U.rows less; number = U.number }
 
-      pub walked-offset : offset ≡ row_offset i
-      walked-offset = walk-offset B U.rows less
-
       -- One row more.
       pub walked_more : {w' : List ℕ} {j' : ℕ} → j' ≡ registers_before (netlist_of f) (i + 1) → ValuesKept w w' → Evaluated (netlist_of f) w' t (i + 1) → Walked f start stop first t v w' (i + 1) (offset + 8) j'
       walked_more {w'} number K E = record { rows = walk_more U.rows less; number = number; kept = kept-twice v w w' U.kept K; values = E }
 
     -- All rows of the block.
     module _ (last : stop ≤ i) where
-      pub walked-number : j ≡ registers_before (netlist_of f) stop
-      walked-number = U.number ∙ ap (registers_before (netlist_of f)) (walk-all U.rows last)
 
       pub walked-values : Evaluated (netlist_of f) w t stop
       walked-values = subst (Evaluated (netlist_of f) w t) (walk-all U.rows last) U.values
@@ -93,6 +88,3 @@ module _ {f : List ℕ} {t : ℕ} {v : List ℕ} where
           values = subst (Evaluated (netlist_of f) w' t) next E;
         }
 
-    -- The rest too.
-    pub blocks-kept : {w' : List ℕ} → ValuesKept w w' → ValuesKept v w'
-    blocks-kept {w'} K = kept-twice v w w' U.kept K

@@ -39,9 +39,6 @@ module _ {w : List ℕ} {n m : ℕ} (R : NextReady w n m) {w₁ : List ℕ} {j :
     next-is : next ≡ u16_at w (next_offset j)
     next-is = let f = R.few in listed ∙ list_same j (omega arith)
 
-    pub literal-asks : (next / 2 < most_original_rows) × Coded w₁
-    literal-asks = (rw next-is (R.literals j less), coded_kept w w₁ m K R.coded)
-
     module _ {code : ℕ} (shown : IsCode code (literal_in w₁ next)) where
       shown-is : code ≡ code_of (literal_in w (u16_at w (next_offset j)))
       shown-is =
@@ -131,8 +128,6 @@ module _ {rows : List Row} (accepted : FoldableRows rows) where
 -- ---- from state m - 1 to state m
 
 module _ {rows : List Row} {w : List ℕ} {m : ℕ} (from : 1 ≤ m) (to : m ≤ last_state) (S : Searched rows w m) where
-  pub evaluate-asks : Evaluated rows w (m - 1) 0
-  evaluate-asks = let r = S.room in record { coded = S.coded; room = omega arith; state = S.stored (m - 1) (omega arith); values = λ x l. absurd (omega arith) }
 
   module _ {n registers : ℕ} {w₁ : List ℕ} (accepted : FoldableRows rows) (few : count_if is_register rows ≤ most_original_registers) (count : n ≡ length rows) (number : registers ≡ count_if is_register rows) (room : state_offset (m + 1) ≤ length w) (K : ValuesKept w w₁) (E : Evaluated rows w₁ (m - 1) n) where
     nexts-valued : NextsListed rows w₁ (length rows)

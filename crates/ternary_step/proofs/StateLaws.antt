@@ -21,12 +21,6 @@ use Rattle.ternary_step.specs.StateMap.{code_at, value_in, Coded, literal_in, Ro
 
 -- ---- codes
 
-pub code-of-value : (x : ℕ) → x < 3 → code_of (value_of x) ≡ x
-code-of-value zero h = refl
-code-of-value (suc zero) h = refl
-code-of-value (suc (suc zero)) h = refl
-code-of-value (suc (suc (suc x))) h = absurd (omega arith)
-
 pub no-code : (v : Ternary) → code_of v ≡ no_code → ⊥
 no-code v e = omega (arith, code_below v)
 
@@ -65,10 +59,6 @@ pub mux-of : (w : List ℕ) (l m n x y z r : ℕ) → IsCode x (literal_in w l) 
     → r ≡ code_of (mux3 (literal_in w l) (literal_in w m) (literal_in w n))
 mux-of w l m n = gate-of-three mux3 (literal_in w l) (literal_in w m) (literal_in w n)
 
--- A row's byte is a code.
-pub code-small : (w : List ℕ) (x : ℕ) → Coded w → x < most_original_rows → byte_at w (value_offset x) < 3
-code-small w x C h = C.code x h
-
 -- ---- a row, by kind
 
 module _ (w : List ℕ) (r : Fields) (base j : ℕ) (R : RowToEvaluate w r base j) where
@@ -78,43 +68,13 @@ module _ (w : List ℕ) (r : Fields) (base j : ℕ) (R : RowToEvaluate w r base 
   below : (l : ℕ) → l / 2 < R.bound → l / 2 < most_original_rows
   below l h = let f = R.few in omega arith
 
-  pub and-asks : r.kind ≡ 3 → (r.a / 2 < most_original_rows) × ((r.b / 2 < most_original_rows) × Coded w)
-  and-asks e = let o = operands-of 3 e in (below r.a o.0, (below r.b o.1, R.coded))
-
-  pub xor-asks : r.kind ≡ 4 → (r.a / 2 < most_original_rows) × ((r.b / 2 < most_original_rows) × Coded w)
-  xor-asks e = let o = operands-of 4 e in (below r.a o.0, (below r.b o.1, R.coded))
-
-  pub mux-asks : r.kind ≡ 5 → (r.a / 2 < most_original_rows) × ((r.b / 2 < most_original_rows) × ((r.c / 2 < most_original_rows) × Coded w))
-  mux-asks e = let o = operands-of 5 e in (below r.a o.0, (below r.b o.1, (below r.c o.2, R.coded)))
-
-  pub output-asks : r.kind ≡ 6 → (r.a / 2 < most_original_rows) × Coded w
-  output-asks e = (below r.a (operands-of 6 e), R.coded)
-
   is_held : r.kind ≡ 2 → (j < most_original_registers) × (code_at w base j < 3)
   is_held e = R.held (ap (λ (k : ℕ). is_register (row_from_fields k r.reset r.a r.b r.c)) e)
-
-  pub register-asks : r.kind ≡ 2 → (j < most_original_registers) × (base + state_bytes ≤ length w)
-  register-asks e = ((is_held e).0, R.room)
 
   -- What is answered for the row.
   abbrev IsValue : ℕ → Type 0
   IsValue x = x ≡ if_known r.kind (code_of (row_in w r base j)) no_code
 
-  pub row-register : (x : ℕ) → r.kind ≡ 2 → x ≡ code_at w base j → IsValue x
-  row-register x e h = rw e (h ∙ sym (code-of-value (code_at w base j) (is_held e).1))
-
-  pub row-and : (x : ℕ) → r.kind ≡ 3 → x ≡ code_of (and3 (literal_in w r.a) (literal_in w r.b)) → IsValue x
-  row-and x e h = rw e h
-
-  pub row-xor : (x : ℕ) → r.kind ≡ 4 → x ≡ code_of (xor3 (literal_in w r.a) (literal_in w r.b)) → IsValue x
-  row-xor x e h = rw e h
-
-  pub row-mux : (x : ℕ) → r.kind ≡ 5 → x ≡ code_of (mux3 (literal_in w r.a) (literal_in w r.b) (literal_in w r.c)) → IsValue x
-  row-mux x e h = rw e h
-
   pub row_output : (x : ℕ) → r.kind ≡ 6 → x ≡ code_of (literal_in w r.a) → IsValue x
   row_output x e h = rw e h
 
-  -- A kind above 6 gets no code.
-  pub row-unknown : (r.kind ≡ 0 → ⊥) → (r.kind ≡ 1 → ⊥) → (r.kind ≡ 2 → ⊥) → (r.kind ≡ 3 → ⊥) → (r.kind ≡ 4 → ⊥) → (r.kind ≡ 5 → ⊥) → (r.kind ≡ 6 → ⊥) → IsValue no_code
-  row-unknown = kind-unknown r.kind (code_of (row_in w r base j)) no_code

@@ -91,9 +91,6 @@ code_put w p x j h = ap (λ (n : ℕ). set w p (byte_at w p + n)) (put-exact x j
 pub count-all : (rows : List Row) (i n j : ℕ) → i ≤ n → n ≤ i → n ≡ length rows → j ≡ registers_before rows i → j ≡ count_if is_register rows
 count-all rows i n j a b count e = let q : i ≡ length rows = omega arith in e ∙ ap (registers_before rows) q ∙ before-all rows
 
-pub started-all : (rows : List Row) (w : List ℕ) (i n : ℕ) → i ≤ n → n ≤ i → Started rows w i → Started rows w n
-started-all rows w i n a b S = let q : i ≡ n = omega arith in subst (Started rows w) q S
-
 -- ---- row i of a ready file
 
 module _ {f : List ℕ} {n i j : ℕ} (A : AtRow f n i j) where
@@ -308,8 +305,6 @@ module _ {f : List ℕ} {n i j : ℕ} (A : AtRow f n i j) where
   -- ---- the row by the offset at which it stands
 
   module _ {offset : ℕ} (at_row : offset ≡ row_offset i) where
-    pub read-at-asks : offset + 8 ≤ length f
-    read-at-asks = rw at_row read-asks.1
 
     module _ {r : Fields} (read : fields_in r ≡ fields_from f offset) {w : List ℕ} {t base : ℕ} (E : Evaluated (netlist_of f) w t i) (at-state : base ≡ state_offset t) where
       row_read : fields_in r ≡ read_fields f i

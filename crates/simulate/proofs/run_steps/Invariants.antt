@@ -1,11 +1,7 @@
--- `run_steps` meets its contract. The loop's invariant: after `done` steps work has the run's state, the result the bytes that the outputs have shown, and `step` and `to` say where the next step's bytes stand. The measure is the number of steps left.
+-- `run_steps` meets its contract. The loop's invariant: after `done` steps work has the run's state, the result the bytes that the outputs have shown, and `step` and `to` say where the next step's bytes stand.
 -- Assumes nothing.
-use Prim.Native.Nat.{◌-◌}
 use Rattle.simulate.proofs.RunLaws.{Running}
 use Rattle.simulate.proofs.run_steps.Given as goal
 
-abbrev pub invariant-steps : goal.invariant-steps
-invariant-steps l = Running l.file l.rows l.nodes l.inputs_a_step l.steps l.choices l.inputs l.initial.work l.initial.res l.step l.to l.done l.work l.res
-
-abbrev pub decreases-steps : goal.decreases-steps
-decreases-steps l = l.steps - l.done
+abbrev pub invariant-loop-done : goal.invariant-loop-done
+invariant-loop-done l = Running l.file l.rows l.nodes l.inputs_a_step l.steps l.choices l.inputs l.initial.work l.initial.res l.step l.to l._done l.work l.res
