@@ -51,11 +51,9 @@ pub fn put_entries(file: &[u8], rows: usize, work: &mut [u8]) -> usize
     requires fold_work_bytes_in_bounds { (fold_work_bytes ≤ length work.old) × KnownRegisters (netlist_of file.now) work.old }
     ensures { EntryPart (netlist_of file.now) work.old work.new rows result }
 {
-    let mut i = 0;
     let mut e = 0;
-    'rows: while i < rows {
+    for i in 0..rows {
         e = entry_row(file, rows, i, work, e);
-        i += 1;
     }
     e
 }

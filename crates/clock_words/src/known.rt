@@ -28,13 +28,11 @@ fn clock_word(work: &[u8], j: usize, period: usize, phases: usize) -> u8
     ensures { result ≡ clock_word (phase_value work.now j period) phases }
 {
     let mut word = 0;
-    let mut k = 0;
-    'phases: while k < phases {
+    for k in 0..phases {
         let t = k % period;
         let base = fold_memory::state_offset(t);
         let code = ternary_step::register_code(work, base, j);
-        word = word + bit_at(code, k);
-        k += 1;
+        word += bit_at(code, k);
     }
     word as u8
 }
@@ -83,10 +81,8 @@ pub fn find_known(file: &[u8], rows: usize, work: &mut [u8], phases: usize)
     requires le_phases { (1 ≤ phases) × ((phases ≤ most_phases) × PeriodPart (netlist_of file.now) work.old rows) }
     ensures { KeptOutside (known_offset 0) (known_offset most_original_rows) work.old work.new × KnownPart (netlist_of file.now) phases work.new rows }
 {
-    let mut i = 0;
     let mut j = 0;
-    'rows: while i < rows {
+    for i in 0..rows {
         j = known_row(file, rows, i, j, work, phases);
-        i += 1;
     }
 }

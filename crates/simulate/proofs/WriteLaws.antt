@@ -1,7 +1,7 @@
 -- Bytes written into a list: one byte more, bytes copied, and the whole list.
 -- Assumes nothing.
-use Prim.Native.Nat.{ℕ, ◌+◌, ◌-◌, ◌<◌, ◌≤◌}
-use mathlib.Core.Path.{◌≡◌, refl, sym, ap, ◌∙◌}
+use Prim.Native.Nat.{ℕ, ◌+◌, ◌<◌, ◌≤◌}
+use mathlib.Core.Path.{◌≡◌, sym, ap, ◌∙◌}
 use mathlib.Core.List.{List, [], ◌∷◌, ◌++◌}
 use native.Mathlib.Omega.{arith}
 use native.Mathlib.Numerals.{add-one}
@@ -9,7 +9,7 @@ use lib.ListN.{length, set, take, drop, length-drop}
 use borrow.Rule.Slice.PartMut.{put_mid}
 use Rattle.std.proofs.Common.{append_assoc}
 use Rattle.std.proofs.lemmas.List.{drop-drop}
-use lib.Seq.{sets, sets-eq, get_or-drop, length-take-le, take-suc}
+use lib.Seq.{sets, sets-eq, length-take-le, take-suc}
 use Rattle.memory.specs.Fields.{byte_at}
 use Rattle.memory.proofs.BufferLaws.{sets-join}
 

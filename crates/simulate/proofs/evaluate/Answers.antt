@@ -3,7 +3,7 @@ use borrow.Author.Rules.{rules}
 use Rattle.netlist.specs.Rows.{is_input}
 use Rattle.netlist.specs.FileFormat.{netlist_of}
 use Rattle.netlist.specs.RunLayout.{place_among}
-use Rattle.simulate.proofs.WalkLaws.{ready-all, blocks-none, block-rows, rest-rows, blocks-halves, block-small, blocks_more, blocks-all}
+use Rattle.simulate.proofs.WalkLaws.{ready-all, blocks-none, block-rows, rest-rows, blocks-halves, blocks-all}
 use Rattle.simulate.proofs.evaluate.Goals as goal
 
 pub loop-block-init : goal.loop-block-init

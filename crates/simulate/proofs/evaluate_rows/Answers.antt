@@ -1,5 +1,5 @@
 use borrow.Author.Rules.{rules}
-use Rattle.simulate.proofs.WalkLaws.{walked_none, walked-small, walked-used, walked-inside, walked-asks, walked-target, walked_more, walked-count, walked-values}
+use Rattle.simulate.proofs.WalkLaws.{walked-used, walked-inside, walked-asks, walked_more}
 use Rattle.simulate.proofs.evaluate_rows.Goals as goal
 
 pub bounds-file-offset : goal.bounds-file-offset

@@ -1,5 +1,5 @@
 use borrow.Author.Rules.{rules}
-use Rattle.simulate.proofs.RunLaws.{run-outputs, run_none, run-ready, run-to, run_more, run_end}
+use Rattle.simulate.proofs.RunLaws.{run-outputs, run_none, run-ready, run_more, run_end}
 use Rattle.simulate.proofs.run_steps.Goals as goal
 
 pub overflow_sub-outputs : goal.overflow_sub-outputs

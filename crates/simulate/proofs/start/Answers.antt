@@ -1,5 +1,5 @@
 use borrow.Author.Rules.{rules}
-use Rattle.simulate.proofs.PassLaws.{row-ready, choice-there, choice-next, choice-small, start-more, start-all}
+use Rattle.simulate.proofs.PassLaws.{row-ready, choice-there, choice-next, choice-small, start-more}
 use Rattle.simulate.proofs.start.Goals as goal
 
 pub start_value-requires : goal.start_value-requires

@@ -1,10 +1,9 @@
-use Prim.Native.Nat.{◌-◌}
 use borrow.Author.Rules.{rules}
 use Rattle.clock_words.proofs.KnownLaws.{word_none, word_small, word-done, phase-asks, code-room, phase-bit, word_next, word_fits}
 use Rattle.clock_words.proofs.known.clock_word.Goals as goal
 
-pub phases-init : goal.phases-init
-phases-init c = search (word_none, rules)
+pub loop-k-init : goal.loop-k-init
+loop-k-init c = search (word_none, rules)
 
 pub state_offset-base-requires : goal.state_offset-base-requires
 state_offset-base-requires c = search phase-asks
@@ -18,8 +17,8 @@ bit_at-word-requires c = search (phase-bit, rules)
 pub overflow_add-word : goal.overflow_add-word
 overflow_add-word c = search word_fits
 
-pub phases-preserved : goal.phases-preserved
-phases-preserved c = search (word_next, rules)
+pub loop-k-preserved : goal.loop-k-preserved
+loop-k-preserved c = search (word_next, rules)
 
 pub overflow_cast-result : goal.overflow_cast-result
 overflow_cast-result c = search word_small
