@@ -20,7 +20,7 @@ use Rattle.ordering.proofs.PlacingLaws.{grounded-in, in-grounded}
 use Rattle.gate_rows.specs.Sources.{source_rows, Source}
 use Rattle.gate_rows.specs.declared.Layout.{Layout}
 use Rattle.gate_rows.proofs.RowLaws.{row_inside}
-use Rattle.gate_loops.specs.Walk.{settled_slot, SourcesSettled, Settled, NoneOpen, WalkReady, Walked}
+use Rattle.gate_loops.specs.Walk.{settled_slot, SourcesSettled, Settled, NoneOpen, Walked}
 use Rattle.gate_loops.proofs.WalkLaws.{open_of, open-words, unsettled-gate}
 
 -- ---- question 22, by what is grounded
@@ -43,12 +43,6 @@ module _ (rows : List Row) (w : List ℕ) (S : SourcesSettled rows w) where
   first-slots : (x : ℕ) → x < length rows → (t : Bool) → is_gate (row_at rows x) ≡ t → slot_at w x ≡ cond t 0 settled_slot
   first-slots x h t e = S x h ∙ ap (λ (b : Bool). cond b 0 settled_slot) e
 
-  settled-first : Settled rows w
-  settled-first = record {
-    sound = λ x h g e. absurd (omega (arith, first-slots x h true g, e));
-    sources = λ x h n. first-slots x h false (fails (is_gate (row_at rows x)) n);
-  }
-
   none_first : NoneOpen rows w
   none_first x h o = go (is_gate (row_at rows x)) refl
     where
@@ -68,25 +62,11 @@ pub record Searching (layout : Layout) (f w₀ w : List ℕ) (n m : ℕ) : Type 
   pub closed : NoneOpen (source_rows layout f) w
   pub settled_before : (x : ℕ) → x < m → slot_at w x ≡ settled_slot
 
-pub search-starts : (layout : Layout) (f v w : List ℕ) (n : ℕ) → Source layout f n → 2 * n ≤ length v → length w ≡ length v → SourcesSettled (source_rows layout f) w → Searching layout f w w n 0
-search-starts layout f v w n Q room long S = record {
-  ready = Q;
-  upto = omega arith;
-  room = omega arith;
-  long = refl;
-  settled = settled-first (source_rows layout f) w S;
-  closed = none_first (source_rows layout f) w S;
-  settled_before = λ x h. absurd (omega arith);
-}
-
 module _ (layout : Layout) (f w₀ w : List ℕ) (n m : ℕ) (S : Searching layout f w₀ w n m) where
   inside : (x : ℕ) → x < n → x < length (source_rows layout f)
   inside = row_inside layout f n S.ready
 
   module _ (s : ℕ) where
-    pub walk-ready : s ≡ 0 → s ≡ slot_at w m → WalkReady (source_rows layout f) w m
-    walk-ready z e = record { settled = S.settled; closed = S.closed; unseen = sym e ∙ z }
-
     -- The row is settled already.
     pub row-passed : ¬ (s ≡ 0) → s ≡ slot_at w m → s < 2 ^ 16 → m < n → (w' : List ℕ) → w' ≡ w → Searching layout f w₀ w' n (m + 1)
     row-passed d e l h w' q = rw q (record {

@@ -59,9 +59,6 @@ module _ (layout : Layout) (f w₀ w : List ℕ) (n root row : ℕ) (S : Standin
   open-slot : (0 < slot_at w row) × (slot_at w row < settled_slot)
   open-slot = row_open rows w T w₀ root row W
 
-  pub slot-some : (s : ℕ) → s ≡ slot_at w row → 1 ≤ s
-  slot-some s e = omega (arith, open-slot.0)
-
   module _ (next : ℕ) (N : Unsettled rows w row next) where
     next-in : next < n
     next-in = omega (arith, N.inside, S.ready.count)

@@ -22,7 +22,7 @@ use Rattle.ordering.proofs.PlacingLaws.{in-of, in_is}
 use Rattle.ordering.proofs.OrderLaws.{below, below-is, below_in}
 use Rattle.gate_rows.specs.Sources.{source_rows, Source}
 use Rattle.gate_rows.specs.declared.Layout.{Layout}
-use Rattle.gate_numbers.specs.Numbers.{placed_slot, of_kinds, KindsFit, KindsNumbered}
+use Rattle.gate_numbers.specs.Numbers.{placed_slot, of_kinds, KindsFit}
 
 -- ---- the number of a row in a longer order
 
@@ -114,14 +114,8 @@ module _ (layout : Layout) (f : List ℕ) (row least most k : ℕ) (t : Bool) (e
   pub number-yes : (number : ℕ) → t ≡ true → number + 1 ≡ number + cond chosen 1 0
   number-yes number y = rw (sym chosen_is ∙ y)
 
-  pub slot-yes : (number : ℕ) (w w' : List ℕ) → t ≡ true → w' ≡ set_slot w row (placed_slot + number) → w' ≡ cond chosen (set_slot w row (placed_slot + number)) w
-  slot-yes number w w' y u = rw (sym chosen_is ∙ y) u
-
   pub number-no : (number : ℕ) → t ≡ false → number ≡ number + cond chosen 1 0
   number-no number y = rw (sym chosen_is ∙ y) (omega arith)
-
-  pub slot-no : (number : ℕ) (w : List ℕ) → t ≡ false → w ≡ cond chosen (set_slot w row (placed_slot + number)) w
-  slot-no number w y = rw (sym chosen_is ∙ y)
 
 -- ---- rows numbered one after the other
 
@@ -182,10 +176,3 @@ module _ (layout : Layout) (f : List ℕ) (n : ℕ) (F : Source layout f n) (lea
             | no d ↦ slot-there (kinds (row_at rows row)) i l d
           ];
         }
-
-    module _ (h : row ≤ n) (k : n ≤ row) where
-      pub numbering-done : KindsNumbered rows least most number w₀ w
-      numbering-done = record { slots = λ i l. N.slots i l ∙ rw (lt-ltb i row (omega (arith, F.count))) }
-
-      pub numbering-count : next ≡ number + length (rows_that rows kinds)
-      numbering-count = N.count ∙ (let e : row ≡ length rows = omega (arith, F.count) in ap (λ (x : ℕ). number + length (below rows kinds x)) e)

@@ -9,7 +9,6 @@ use native.Mathlib.Decide.{ℕ_discrete}
 use lib.ListN.{length, replicate}
 use lib.Dec.{eqb, leb, ltb}
 use borrow.Author.Tests.{eq-eqb, ne_eqb, le-leb, lt-ltb, le-ltb}
-use Rattle.memory.specs.Slots.{slot_at}
 use Rattle.memory.proofs.TestLaws.{fails}
 use Rattle.memory.proofs.ListLaws.{join-cong}
 use Rattle.memory.proofs.SlotLaws.{slots-cleared}
@@ -17,7 +16,7 @@ use Rattle.netlist.specs.Rows.{Row, constant, input, register, and_gate, xor_gat
 use Rattle.ordering.specs.GateOrder.{is_gate, is_source, is_in, rows_that, new_number}
 use Rattle.ordering.proofs.PlacingLaws.{in-of, in_is}
 use Rattle.ordering.proofs.OrderLaws.{below-is, below_in, source-no-gate}
-use Rattle.ready_gates.specs.ReadySlots.{ready_slot, ReadyRoom, ReadyMarked}
+use Rattle.ready_gates.specs.ReadySlots.{ready_slot}
 use Rattle.gate_rows.specs.Sources.{source_rows, Source}
 use Rattle.gate_rows.specs.declared.Layout.{Layout}
 use Rattle.gate_rows.proofs.RowLaws.{operands-nodes}
@@ -102,16 +101,6 @@ module _ (layout : Layout) (f : List ℕ) (n : ℕ) (F : Source layout f n) wher
         K.slots i l
         ∙ rw (source-kinds (row_at rows i), same_rows rows (of_kinds 0 2) is_source source-kinds, slots-cleared w₀ m z i, in_rows rows is_source i l, e);
   }
-
-  pub none-marked : (w : List ℕ) → SourcesNumbered rows w → ReadyRoom n w → ReadyMarked n w 0
-  none-marked w N room = record { room = room; marked = λ i l e. absurd (unready i (omega (arith, F.count)) e); above = λ i l e. omega arith }
-    where
-      unready : (i : ℕ) → i < length rows → slot_at w i ≡ ready_slot → ⊥
-      unready i l e = go (is_in i S) (sym (N.slots i l) ∙ e)
-        where
-          go : (t : Bool) → cond t (placed_slot + new_number S i) 0 ≡ ready_slot → ⊥
-          go true q = omega (arith, q)
-          go false q = omega (arith, q)
 
   pub found_none : (w : List ℕ) → Woken rows (rows_below 0) w w
   found_none w = woken-none rows (rows_below 0) w (λ i l. le-ltb i 0 (omega arith))

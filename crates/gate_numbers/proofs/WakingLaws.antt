@@ -1,6 +1,6 @@
 -- Which gates become ready: those of which all operands are placed.
 -- Assumes nothing.
-use Prim.Native.Nat.{ℕ, zero, suc, ◌+◌, ◌*◌, ◌<◌, ◌≤◌, ◌^◌}
+use Prim.Native.Nat.{ℕ, zero, suc, ◌+◌, ◌<◌, ◌≤◌, ◌^◌}
 use mathlib.Core.Path.{◌≡◌, refl, sym, ap, ◌∙◌, subst}
 use mathlib.Core.Bool.{Bool, true, false, cond, ◌&&◌, ◌||◌, false≢true}
 use mathlib.Core.List.{List, [], ◌∷◌}
@@ -8,7 +8,7 @@ use native.Mathlib.Omega.{arith}
 use native.Mathlib.Decide.{dec_lt, ℕ_discrete}
 use lib.ListN.{length, get_or}
 use lib.Dec.{eqb, ltb, leb}
-use borrow.Author.Tests.{eq-eqb, ne_eqb, ltb-true, lt-ltb, le-ltb, le-leb, lt-leb}
+use borrow.Author.Tests.{eq-eqb, ne_eqb, ltb-true, lt-ltb, le-ltb}
 use Rattle.memory.specs.Lists.{all_of, Among, here, there}
 use Rattle.memory.specs.Slots.{slot_at, set_slot}
 use Rattle.memory.proofs.SlotLaws.{slot-other}
@@ -16,12 +16,12 @@ use Rattle.memory.proofs.TestLaws.{and-true, fails}
 use Rattle.netlist.specs.Rows.{Row, constant, input, register, and_gate, xor_gate, mux_gate, output, row_at}
 use Rattle.netlist.specs.WellFormed.{Unordered}
 use Rattle.ordering.specs.GateOrder.{is_gate, operands_of}
-use Rattle.ordering.proofs.PlacingLaws.{among-at, at_of, all-at, all-of}
-use Rattle.ready_gates.specs.ReadySlots.{ready_slot, ReadyMarked, MadeReady}
+use Rattle.ordering.proofs.PlacingLaws.{at_of, all-of}
+use Rattle.ready_gates.specs.ReadySlots.{ready_slot, ReadyMarked}
 use Rattle.ready_gates.proofs.ReadyLaws.{marked-placed}
 use Rattle.gate_rows.specs.Sources.{source_rows, Source}
 use Rattle.gate_rows.specs.declared.Layout.{Layout}
-use Rattle.gate_rows.proofs.RowLaws.{operands-nodes, operand_row, row_inside}
+use Rattle.gate_rows.proofs.RowLaws.{operands-nodes}
 use Rattle.gate_users.specs.Users.{uses, last_user}
 use Rattle.gate_users.proofs.UserLaws.{last-below, last_less, last-uses, last-above, constant-uses}
 use Rattle.gate_numbers.specs.Numbers.{placed_slot, is_placed_in, gate_of, users_of, Woken, NextGate, GatePlaced}
@@ -48,10 +48,6 @@ all-cong f g (j ∷ js) h = rw (h j here, all-cong f g js (λ i a. h i (there a)
 pub gate-cong : (rows : List Row) (f g : ℕ → Bool) (i : ℕ) → ((j : ℕ) → Among j (operands_of (row_at rows i)) → f j ≡ g j) → gate_of rows f i ≡ gate_of rows g i
 gate-cong rows f g i h = ap (λ (t : Bool). is_gate (row_at rows i) && t) (all-cong f g (operands_of (row_at rows i)) h)
 
--- Operand number k of row x has a slot.
-pub operand-slot : (layout : Layout) (f : List ℕ) (n : ℕ) → Source layout f n → (x : ℕ) → x < n → (w : List ℕ) (count k j : ℕ) → 2 * n ≤ length w → count ≡ length (operands_of (row_at (source_rows layout f) x)) → k < count → j ≡ get_or (operands_of (row_at (source_rows layout f) x)) k 0 → 2 * j + 2 ≤ length w
-operand-slot layout f n F x h w count k j room m l e = omega (arith, operand_row (source_rows layout f) F.rows x k (row_inside layout f n F x h) (omega arith), F.count, e)
-
 -- ---- all of them placed
 
 module _ (rows : List Row) (w : List ℕ) (x : ℕ) where
@@ -64,15 +60,6 @@ module _ (rows : List Row) (w : List ℕ) (x : ℕ) where
 
   pub placed-none : PlacedTo 0
   placed-none y h = absurd (omega arith)
-
-  pub placed-more : (k j s : ℕ) → PlacedTo k → j ≡ get_or named k 0 → s ≡ slot_at w j → placed_slot ≤ s → PlacedTo (k + 1)
-  placed-more k j s P e q h y l = elim (ℕ_discrete y k) [
-    | yes d ↦ rw (d, ← e, ← q) (le-leb placed_slot s h)
-    | no d ↦ P y (omega (arith, d))
-  ]
-
-  pub one-unplaced : (count k j s : ℕ) → count ≡ length named → k < count → j ≡ get_or named k 0 → s ≡ slot_at w j → s < placed_slot → false ≡ gate_of rows (is_placed_in w) x
-  one-unplaced count k j s m l e q h = sym (fails (gate_of rows (is_placed_in w) x) (λ t. false≢true (sym (rw (← e, ← q) (lt-leb placed_slot s h)) ∙ all-at (is_placed_in w) named (and-true (is_gate (row_at rows x)) _ t).1 (get_or named k 0) (among-at k named (omega arith)))))
 
   pub all_placed : (count k : ℕ) → count ≡ length named → count ≤ k → PlacedTo k → ltb 0 count ≡ gate_of rows (is_placed_in w) x
   all_placed count k e h P = go (is_gate (row_at rows x)) refl
@@ -133,14 +120,6 @@ woken-join rows a b c w₀ w w' U h A X Y = record { slots = slots }
         Y.slots i l
         ∙ rw (ready-same i l, X.slots i l, h i l) (either (b i) (a i) (gate_of rows (is_placed_in w₀) i) (slot_at w₀ i))
 
--- One row alone.
-module _ (layout : Layout) (f : List ℕ) (n : ℕ) (F : Source layout f n) (x : ℕ) (w : List ℕ) where
-  pub row-woken : (t : Bool) (w' : List ℕ) → t ≡ gate_of (source_rows layout f) (is_placed_in w) x → t ≡ true → MadeReady n w x w' → Woken (source_rows layout f) (eqb x) w w'
-  row-woken t w' e y M = record { slots = λ i l. elim (ℕ_discrete i x) [ yes q ↦ rw (q, eq-eqb x x refl, ← e, y) M.ready | no d ↦ rw (ne_eqb x i (λ z. d (sym z))) (M.others i (omega (arith, F.count)) d) ] }
-
-  pub row-asleep : (t : Bool) → t ≡ gate_of (source_rows layout f) (is_placed_in w) x → t ≡ false → Woken (source_rows layout f) (eqb x) w w
-  row-asleep t e y = record { slots = λ i l. elim (ℕ_discrete i x) [ yes q ↦ rw (q, eq-eqb x x refl, ← e, y) | no d ↦ rw (ne_eqb x i (λ z. d (sym z))) ] }
-
 -- No row is below row 0.
 pub marked-lowest : (n r : ℕ) (w : List ℕ) → ReadyMarked n w r → r ≤ 0 → ReadyMarked n w 0
 marked-lowest n r w M h = record { room = M.room; marked = M.marked; above = λ i l e. omega arith }
@@ -185,9 +164,6 @@ module _ (layout : Layout) (f : List ℕ) (n : ℕ) (F : Source layout f n) wher
         (omega (arith, last-below rows node n z, F.count), rw e (last-uses rows node n z))
 
     module _ (user : ℕ) (d : user ≡ 0 → ⊥) (N : NextUser rows node user) where
-      pub user-inside : user < n
-      user-inside = omega (arith, (N d).0, F.count)
-
       pub user-uses : uses rows user node ≡ true
       user-uses = (N d).1
 

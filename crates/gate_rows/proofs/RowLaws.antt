@@ -1,7 +1,7 @@
 -- What code that goes through gates in any order knows: the rows, and the nodes that their operands name.
 -- Assumes nothing.
 use Prim.Native.Nat.{ℕ, ◌<◌}
-use mathlib.Core.Path.{◌≡◌, subst}
+use mathlib.Core.Path.{◌≡◌}
 use mathlib.Core.Bool.{false}
 use mathlib.Core.List.{List, [], ◌∷◌}
 use native.Mathlib.Omega.{arith}
@@ -45,8 +45,5 @@ operand_row rows U x k h l = operand_below rows U x h (get_or (operands_of (row_
 
 -- A source of n rows: as many as there are.
 module _ (l : Layout) (s : List ℕ) (n : ℕ) (S : Source l s n) where
-  pub rows_all : Source l s (length (source_rows l s))
-  rows_all = subst (Source l s) S.count S
-
   pub row_inside : (i : ℕ) → i < n → i < length (source_rows l s)
   row_inside i h = omega (arith, S.count)

@@ -8,14 +8,14 @@ use native.Mathlib.Omega.{arith}
 use native.Mathlib.Decide.{ℕ_discrete}
 use native.Mathlib.Numerals.{add-one}
 use lib.ListN.{length, get_or, take, drop, replicate, length-replicate, get_or-append}
-use lib.Seq.{sets, take-suc, take-length, length-take-le, length_front}
+use lib.Seq.{sets, take-suc, length-take-le}
 use lib.Dec.{eqb}
 use borrow.Author.Tests.{eq-eqb, ne_eqb}
 use Rattle.memory.specs.Fields.{byte_at, u16_at, u16_bytes}
 use Rattle.memory.specs.Slots.{slot_at, set_slot}
 use Rattle.memory.proofs.TestLaws.{last_or}
 use Rattle.memory.proofs.FieldLaws.{zeros-at}
-use Rattle.memory.proofs.FrameLaws.{kept-none, kept-join, kept_sets, u16-kept, u16-back}
+use Rattle.memory.proofs.FrameLaws.{kept-join, kept_sets, u16-kept, u16-back}
 use Rattle.memory.proofs.SlotLaws.{slot_same, slot-other}
 use Rattle.netlist.specs.Rows.{Row, constant, input, register, and_gate, xor_gate, mux_gate, output, row_at}
 use Rattle.ordering.specs.GateOrder.{is_in, operands_of}
@@ -38,9 +38,6 @@ operands-few (mux_gate _ _ _) = omega arith
 operands-few (output _ _ _) = omega arith
 
 -- ---- the heads that a row finds
-
-pub kept-start : (rows : List Row) (x : ℕ) (u : List ℕ) → HeadsKept rows x 0 u u
-kept-start rows x u = record { entries = λ k h. absurd (omega arith); others = kept-none (2 * length rows + 6 * x) (2 * length rows + 6 * x + 6) u }
 
 -- One more entry is written.
 keep-more :
@@ -80,9 +77,6 @@ in-last y z (j ∷ ys) = ap (λ (b : Bool). eqb y j || b) (in-last y z ys) ∙ o
     or-group true = refl
     or-group false = refl
 
-pub set-start : (rows : List Row) (x : ℕ) (u : List ℕ) (ys : List ℕ) → HeadsSet rows x (take 0 ys) u u
-set-start rows x u ys = record { heads = λ y h. refl; others = kept-none 0 (2 * length rows) u }
-
 set_last :
     (rows : List Row) (x : ℕ) (ys : List ℕ) (u u' : List ℕ) (node : ℕ)
     → x < 2 ^ 16
@@ -118,9 +112,6 @@ module _ (layout : Layout) (f : List ℕ) (n : ℕ) (F : Source layout f n) wher
   pub ready-all : Source layout f (length (source_rows layout f))
   ready-all = subst (Source layout f) F.count F
 
-  pub room-all : (u u' : List ℕ) → 8 * n ≤ length u → length u' ≡ length u → 8 * length (source_rows layout f) ≤ length u'
-  room-all u u' h e = omega (arith, F.count)
-
   -- Row x, which has `count` operands.
   module _ (x : ℕ) (h : x < n) (count : ℕ) (c : count ≡ length (operands_of (row_at (source_rows layout f) x))) where
     abbrev operands : List ℕ
@@ -153,10 +144,6 @@ module _ (layout : Layout) (f : List ℕ) (n : ℕ) (F : Source layout f n) wher
         let at : o ≡ 2 * length rows + 6 * x + 2 * k = omega (arith, F.count) in
         rw (w, at) (keep-more rows x k u u' node v (row_inside layout f n F x h) (omega (arith, few)) (omega (arith, F.count)) H (node-below k node l p) p e small)
 
-    -- Every operand has its entry.
-    pub keep-end : (u u' : List ℕ) (k : ℕ) → HeadsKept (source_rows layout f) x k u u' → count ≤ k → HeadsKept (source_rows layout f) x (length (operands_of (row_at (source_rows layout f) x))) u u'
-    keep-end u u' k H l = record { entries = λ i b. H.entries i (omega arith); others = H.others }
-
     pub set_next :
         (u u' u'' : List ℕ) (k node : ℕ)
         → 8 * n ≤ length u
@@ -169,12 +156,6 @@ module _ (layout : Layout) (f : List ℕ) (n : ℕ) (F : Source layout f n) wher
         rw (w, add-one k, take-suc operands k 0 (index_in k l), ← p)
         (set_last rows x (take k operands) u u' node (omega (arith, F.few)) (omega (arith, F.count)) H (node-below k node l p))
 
-    -- The row is the head of each list.
-    pub set-end : (u u' : List ℕ) (k : ℕ) → HeadsSet (source_rows layout f) x (take k (operands_of (row_at (source_rows layout f) x))) u u' → k ≤ count → count ≤ k → HeadsSet (source_rows layout f) x (operands_of (row_at (source_rows layout f) x)) u u'
-    set-end u u' k H a b =
-        let e : k ≡ length operands = omega arith in
-        subst (λ (ys : List ℕ). HeadsSet rows x ys u u') (ap (λ (i : ℕ). take i operands) e ∙ take-length operands) H
-
 -- ---- the lists of the first rows
 
 -- The heads of all rows, as a part of the memory, and the memory once they are cleared.
@@ -183,15 +164,6 @@ module _ (n : ℕ) (u : List ℕ) (room : 8 * n ≤ length u) where
   part-long = sym (length-take-le (2 * n) u (omega arith))
 
   module _ (p : List ℕ) (e : p ≡ replicate (length (take (2 * n) u)) 0) where
-    cleared-long : length (p ++ drop (2 * n) u) ≡ length u
-    cleared-long = length_front u p (2 * n) (ap length e ∙ length-replicate (length (take (2 * n) u)) 0)
-
-    pub cleared-room : 8 * n ≤ length (p ++ drop (2 * n) u)
-    cleared-room = omega (arith, cleared-long)
-
-    pub cleared-same : (v : List ℕ) → length v ≡ length (p ++ drop (2 * n) u) → length v ≡ length u
-    cleared-same v h = h ∙ cleared-long
-
     cleared_at : (i : ℕ) → i < 2 * n → byte_at (p ++ drop (2 * n) u) i ≡ 0
     cleared_at i h =
         get_or-append p (drop (2 * n) u) 0 i (omega (arith, ap length e, length-replicate {A = ℕ} (length (take (2 * n) u)) 0, part-long))
@@ -238,9 +210,6 @@ module _ (layout : Layout) (f : List ℕ) (n m : ℕ) (u v w : List ℕ)
     entries = λ x k l b. last_or x m (omega arith) (λ q. earlier x k q b) (λ q. rw q (own k (rw q at b)));
   }
 
-pub listed-all : (rows : List Row) (u : List ℕ) (n m : ℕ) → Listed rows u m → n ≤ m → m ≤ n → Listed rows u n
-listed-all rows u n m L a b = let e : n ≡ m = omega arith in rw e L
-
 -- ---- the lists read
 
 -- The first k operands are not the node.
@@ -250,19 +219,8 @@ NotAmong ys k node = (i : ℕ) → i < k → get_or ys i 0 ≡ node → ⊥
 pub among_none : (ys : List ℕ) (node : ℕ) → NotAmong ys 0 node
 among_none ys node i h = absurd (omega arith)
 
-pub among-more : (ys : List ℕ) (k node other : ℕ) → NotAmong ys k node → other ≡ get_or ys k 0 → (other ≡ node → ⊥) → NotAmong ys (k + 1) node
-among-more ys k node other h e d i l q = last_or i k (omega arith) (λ b. h i b q) (λ p. d (e ∙ ap (λ (z : ℕ). get_or ys z 0) (sym p) ∙ q))
-
 module _ (layout : Layout) (f : List ℕ) (n : ℕ) (F : Source layout f n) (u : List ℕ) (L : Listed (source_rows layout f) u n) where
-  pub head-is : (y r : ℕ) → y < n → r ≡ slot_at u y → r ≡ last_user (source_rows layout f) y n
-  head-is y r h e = e ∙ L.heads y (row_inside layout f n F y h)
-
   module _ (x : ℕ) (h : x < n) (count : ℕ) (c : count ≡ length (operands_of (row_at (source_rows layout f) x))) (k : ℕ) (node : ℕ) where
-    pub entry-is : (other o r : ℕ) → k < count → other ≡ get_or (operands_of (row_at (source_rows layout f) x)) k 0 → other ≡ node → o ≡ 2 * n + 6 * x + 2 * k → r ≡ u16_at u o → r ≡ last_user (source_rows layout f) node x
-    entry-is other o r l e p q w =
-        let at : o ≡ 2 * length (source_rows layout f) + 6 * x + 2 * k = omega (arith, F.count) in
-        w ∙ ap (u16_at u) at ∙ L.entries x k h (omega arith) ∙ ap (λ (z : ℕ). last_user (source_rows layout f) z x) (sym e ∙ p)
-
     -- Some operand is the node.
     pub user-has : (z : ℕ) → NotAmong (operands_of (row_at (source_rows layout f) x)) k node → count ≤ k → uses (source_rows layout f) x node ≡ true → z ≡ last_user (source_rows layout f) node x
     user-has z a l e =

@@ -5,9 +5,9 @@ use mathlib.Core.Path.{◌≡◌, refl, sym, ap, ◌∙◌}
 use mathlib.Core.Bool.{Bool}
 use mathlib.Core.List.{List}
 use native.Mathlib.Omega.{arith}
-use native.Mathlib.Decide.{dec_lt, ℕ_discrete}
-use lib.ListN.{length, set, length-set}
-use lib.Seq.{get_or-set_same, get_or-set_other}
+use native.Mathlib.Decide.{dec_lt}
+use lib.ListN.{set, length-set}
+use lib.Seq.{get_or-set_other}
 use lib.Dec.{eqb}
 use borrow.Author.Tests.{eqb-true, eqb-false, eq-eqb, ne_eqb}
 use Rattle.memory.specs.Fields.{byte_at, u16_bytes}
@@ -16,7 +16,7 @@ use Rattle.memory.specs.Slots.{slot_at, set_slot}
 use Rattle.memory.proofs.ListLaws.{first-is, first-least, first_found, first-none}
 use Rattle.memory.proofs.FrameLaws.{kept_set, kept_sets, u16-kept}
 use Rattle.memory.proofs.SlotLaws.{slot_same, slot-other}
-use Rattle.ready_gates.specs.ReadySlots.{ready_slot, first_ready_from, first_ready, group_end, ReadyMarked, SlotsKept, MadeReady}
+use Rattle.ready_gates.specs.ReadySlots.{ready_slot, first_ready_from, first_ready, group_end, ReadyMarked, SlotsKept}
 
 abbrev is_ready : List ℕ → ℕ → Bool
 is_ready w x = eqb (slot_at w x) ready_slot
@@ -28,9 +28,6 @@ NoneReady w i j = (x : ℕ) → i ≤ x → x < j → slot_at w x ≡ ready_slot
 -- ---- the first ready row of some
 
 module _ (w : List ℕ) (i j : ℕ) where
-  pub none_yet : NoneReady w i i
-  none_yet x a b e = omega arith
-
   pub none_more : (k s : ℕ) → NoneReady w i k → s ≡ slot_at w k → (s ≡ ready_slot → ⊥) → NoneReady w i (k + 1)
   none_more k s h e n x a b q = elim (dec_lt x k) [
     | yes l ↦ h x a l q
@@ -105,13 +102,6 @@ module _ (n : ℕ) (w : List ℕ) (low : ℕ) (R : ReadyMarked n w low) where
         | no k ↦ omega arith
       ])
 
--- Where no row of some first groups is ready, none of fewer groups is, and none before a row of theirs.
-pub passed-before : (n : ℕ) (w : List ℕ) (s g : ℕ) → ReadyMarked n w (64 * g) → s ≤ g → ReadyMarked n w (64 * s)
-passed-before n w s g R h = marked_from n w (64 * g) R (64 * s) (λ i l e. omega (arith, R.above i l e))
-
-pub passed-low : (n : ℕ) (w : List ℕ) (low : ℕ) → ReadyMarked n w (64 * (low / 64 + 1)) → ReadyMarked n w low
-passed-low n w low R = marked_from n w (64 * (low / 64 + 1)) R low (λ i l e. omega (arith, R.above i l e))
-
 -- A group that has no mark is passed.
 pub group-unmarked : (n : ℕ) (w : List ℕ) (g : ℕ) → ReadyMarked n w (64 * g) → byte_at w (2 * n + g) ≡ 0 → ReadyMarked n w (64 * (g + 1))
 group-unmarked n w g R z = marked_from n w (64 * g) R (64 * (g + 1)) (λ i l s.
@@ -157,46 +147,3 @@ module _ (n : ℕ) (w : List ℕ) (low j v : ℕ) (R : ReadyMarked n w low) (h :
       marked = λ i l s. rw (set-marks (i / 64)) (R.marked i l (was-ready i s));
       above = λ i l s. R.above i l (was-ready i s);
     }
-
--- Row j becomes ready, and its group's mark is set.
-module _ (n : ℕ) (w : List ℕ) (low j : ℕ) (R : ReadyMarked n w low) (h : j < n) (w' : List ℕ) (q : w' ≡ set_slot w j ready_slot) where
-  pub made-ready : (v : ℕ) → MadeReady n w j (set w' (2 * n + j / 64) v)
-  made-ready v =
-      let K = mark-set-kept n w' (j / 64) v in
-      record {
-        long = K.long ∙ ap length q ∙ (set-frame n w low j ready_slot R h (omega arith)).long;
-        ready = K.slots j h ∙ ap (λ (x : List ℕ). slot_at x j) q ∙ set_same n w low j ready_slot R h (omega arith);
-        others = λ i l d. K.slots i l ∙ ap (λ (x : List ℕ). slot_at x i) q ∙ slot-other w j ready_slot i d;
-      }
-
-  abbrev marks : List ℕ
-  marks = set w' (2 * n + j / 64) 1
-
-  was : (i : ℕ) → i < n → ¬ (i ≡ j) → slot_at marks i ≡ ready_slot → slot_at w i ≡ ready_slot
-  was i l d s = sym ((made-ready 1).others i l d) ∙ s
-
-  -- Only the mark of row j's group is set.
-  other-mark : (g : ℕ) → ¬ (g ≡ j / 64) → byte_at marks (2 * n + g) ≡ byte_at w (2 * n + g)
-  other-mark g d =
-      get_or-set_other w' (2 * n + j / 64) (2 * n + g) 1 0 (λ (e : 2 * n + g ≡ 2 * n + j / 64). d (omega arith))
-      ∙ ap (λ (x : List ℕ). byte_at x (2 * n + g)) q ∙ set-marks n w low j ready_slot R h (omega arith) g
-
-  own-mark : byte_at marks (2 * n + j / 64) ≡ 1
-  own-mark = get_or-set_same w' (2 * n + j / 64) 1 0 (omega (arith, length-set w' (2 * n + j / 64) 1, (made-ready 1).long, R.room))
-
-  made-marked : (k : ℕ) → k ≤ low → k ≤ j → ReadyMarked n marks k
-  made-marked k a b = record {
-    room = omega (arith, (made-ready 1).long, R.room);
-    marked = λ i l s.
-        elim (ℕ_discrete (i / 64) (j / 64)) [
-          | yes e ↦ rw (e, own-mark) (omega arith)
-          | no d ↦ rw (other-mark (i / 64) d) (R.marked i l (was i l (λ (e : i ≡ j). d (ap (λ (x : ℕ). x / 64) e)) s))
-        ];
-    above = λ i l s. elim (ℕ_discrete i j) [ yes e ↦ omega arith | no d ↦ omega (arith, R.above i l (was i l d s)) ];
-  }
-
-  pub made-lowest : j < low → ReadyMarked n (set w' (2 * n + j / 64) 1) j
-  made-lowest l = made-marked j (omega arith) (omega arith)
-
-  pub made-above : low ≤ j → ReadyMarked n (set w' (2 * n + j / 64) 1) low
-  made-above l = made-marked low (omega arith) l

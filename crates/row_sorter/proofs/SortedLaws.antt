@@ -1,6 +1,6 @@
 -- The sorted file, from its parts: the loop that is looked for, the room for numbers and lists, and the rows that are written.
 -- Assumes nothing.
-use Prim.Native.Nat.{ℕ, ◌+◌, ◌-◌, ◌*◌, ◌<◌, ◌≤◌, ◌/◌}
+use Prim.Native.Nat.{ℕ, ◌-◌, ◌*◌, ◌<◌, ◌≤◌}
 use mathlib.Core.Path.{◌≡◌, sym, ap, ◌∙◌, subst}
 use mathlib.Core.Bool.{true, cond}
 use mathlib.Core.List.{List, ◌++◌}
@@ -10,11 +10,9 @@ use lib.Dec.{ltb}
 use borrow.Author.Tests.{lt-ltb, le-ltb, ltb-true}
 use Rattle.memory.specs.Lists.{first_from}
 use Rattle.memory.proofs.ListLaws.{first-is}
-use Rattle.netlist.specs.Limits.{row_work_bytes}
 use Rattle.netlist.specs.Rows.{Row}
 use Rattle.netlist.specs.FileFormat.{blocks_for, file_of, file_in}
 use Rattle.netlist.proofs.FileLaws.{file-length}
-use Rattle.netlist.proofs.WorkLaws.{work-holds}
 use Rattle.questions.specs.Questions.{no_refusal}
 use Rattle.ordering.specs.GateOrder.{sorted_netlist}
 use Rattle.ordering.specs.SortQuestions.{loop_question, loop_refusal}
@@ -46,17 +44,6 @@ module _ (layout : Layout) (s : List ℕ) (n : ℕ) (S : Source layout s n) wher
     pub loop-none : n ≤ first → loop_refusal R ≡ no_refusal
     unfolding loop_refusal
     loop-none h = rw (found, le-ltb first (length R) (omega (arith, h, S.count)))
-
-  -- ---- what is lent
-
-  pub users-room : (result : List ℕ) → 512 * blocks_for n ≤ length result → 8 * n ≤ length result
-  users-room result h = omega (arith, h)
-
-  pub marks-room : (slots : List ℕ) → row_work_bytes n ≤ length slots → 2 * n + (n + 63) / 64 ≤ length slots
-  marks-room slots h = omega (arith, h, work-holds n S.few)
-
-  pub slots-fit : (w₀ w : List ℕ) → row_work_bytes n ≤ length w₀ → length w ≡ length w₀ → 2 * n ≤ length w
-  slots-fit w₀ w h e = omega (arith, h, e, work-holds n S.few)
 
 -- The sorter's answer, and the result that it leaves, in the words of 22.
 module _ (layout : Layout) (s : List ℕ) (n : ℕ) (result result' : List ℕ) (first : ℕ) where
@@ -90,11 +77,3 @@ file-written rows n m r r' write count passed stands long =
     let bytes : length (file_of (sorted_netlist rows)) ≡ 512 * blocks_for n = file-length (sorted_netlist rows) ∙ ap (λ (k : ℕ). 512 * blocks_for k) size in
     let rest : length r - 512 * blocks_for n ≡ m - length (file_of (sorted_netlist rows)) = omega (arith, long, bytes) in
     write (sorted_netlist rows) size stands ∙ ap (λ (k : ℕ). file_of (sorted_netlist rows) ++ replicate k 0) rest
-
--- ---- the result, by the answer
-
-pub result-kept : (first n : ℕ) (result new : List ℕ) → first < n → result ≡ cond (ltb first n) result new
-result-kept first n result new h = rw (lt-ltb first n h)
-
-pub result-written : (first n : ℕ) (result result' new : List ℕ) → n ≤ first → result' ≡ new → result' ≡ cond (ltb first n) result new
-result-written first n result result' new h e = rw (le-ltb first n h) e

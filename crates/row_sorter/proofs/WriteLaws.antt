@@ -26,7 +26,6 @@ use Rattle.blockfile.proofs.StandLaws.{row_next}
 use Rattle.blockfile.proofs.KindLaws.{encode-map, map_same}
 use Rattle.gate_rows.specs.Sources.{source_rows, Source}
 use Rattle.gate_rows.specs.declared.Layout.{Layout}
-use Rattle.gate_numbers.specs.Numbers.{placed_slot}
 use Rattle.row_sorter.specs.Placing.{Placeable, row_placed}
 
 literals-below : (rows : List Row) (r : Row) → OnLiterals (NamesNode rows) (NamesNode rows) r → EachBelow (length rows) (map (λ (l : ℕ). l / 2) (literals_of r))
@@ -49,9 +48,6 @@ pub record Writing (rows : List Row) (n : ℕ) (result : List ℕ) (i : ℕ) : T
   pub some-rows : i ≤ n
   pub room : 512 * blocks_for n ≤ length result
   pub written : Written rows i result
-
-pub writing-none : (rows : List Row) (n : ℕ) (result : List ℕ) → 512 * blocks_for n ≤ length result → Writing rows n result 0
-writing-none rows n result h = record { some-rows = omega arith; room = h; written = λ j d l k. absurd (omega arith) }
 
 -- Each of n rows has its place in the blocks of n rows.
 place_inside : (n i : ℕ) → i < n → row_offset i + 8 ≤ 512 * blocks_for n
@@ -100,9 +96,6 @@ module _ (layout : Layout) (s w : List ℕ) (n : ℕ) (P : Placeable layout s w 
     pub row_moved : (u v : RowFields) → u ≡ encode_row (row_at R i) → v ≡ renumber_fields (renumber_in w n) u → v ≡ renumber_fields (renumber_in w n) (encode_row (row_at R i))
     row_moved u v x y = y ∙ ap (renumber_fields (renumber_in w n)) x
 
-    pub slot-room : 2 * i + 2 ≤ length w
-    slot-room = omega (arith, P.room, l)
-
     module _ (result : List ℕ) (to slot : ℕ) (e : slot ≡ slot_at w i) (q : to ≡ slot % 2 ^ 15) where
       to_is : to ≡ new_row R i
       to_is = q ∙ ap (λ (x : ℕ). x % 2 ^ 15) e ∙ slot_is i l
@@ -112,11 +105,6 @@ module _ (layout : Layout) (s w : List ℕ) (n : ℕ) (P : Placeable layout s w 
 
       pub to_room : 512 * blocks_for n ≤ length result → row_offset to + 8 ≤ length result
       to_room room = subst (λ (x : ℕ). row_offset x + 8 ≤ length result) (sym to_is) (omega (arith, place_inside n (new_row R i) (number-few i l), room))
-
-      pub row-placed : (result' : List ℕ) (v : RowFields) → v ≡ renumber_fields (renumber_in w n) (encode_row (row_at R i)) → result' ≡ sets result (row_offset to) (field_bytes v) → result' ≡ row_placed R w n i result
-      row-placed result' v y z =
-          z ∙ ap (λ (t : ℕ). sets result (row_offset t) (field_bytes v)) (q ∙ ap (λ (t : ℕ). t % 2 ^ 15) e)
-          ∙ ap (λ (t : RowFields). sets result (row_offset (slot_at w i % placed_slot)) (field_bytes t)) y
 
   -- ---- all rows
 
