@@ -51,7 +51,8 @@ fn memory_right(counts: Counts, steps: usize, res: usize, work: usize) -> bool
 {
     let bytes = steps * counts.outputs;
     let least = netlist::row_work(counts.nodes + counts.outputs);
-    bytes <= res && least <= work
+    let fits = bytes <= res;
+    fits && least <= work
 }
 
 // 17 to 20, of an accepted file of this many rows and these counts.
