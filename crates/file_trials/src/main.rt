@@ -88,20 +88,18 @@ fn obey_line(
     res: &mut [u8],
     tally: Tally,
 ) -> Tally {
-    let mut words = [0u32; 16];
-    let numbers: &mut [u32] = &mut words;
+    let mut numbers = [0u32; 16];
     let letter = text::bytes::get(line, 0);
-    scripted_files::script::read_numbers(line, numbers);
+    scripted_files::script::read_numbers(line, &mut numbers);
     echo(rt, letter, line);
-    let tried = obey_file(rt, letter, numbers, file, kept, tally);
-    let sorted = sorts::obey(rt, letter, numbers, file, kept, res, tried);
+    let tried = obey_file(rt, letter, &numbers, file, kept, tally);
+    let sorted = sorts::obey(rt, letter, &numbers, file, kept, res, tried);
     let ran = obey_run(
-        rt, letter, line, numbers, file, inputs, choices, res, sorted,
+        rt, letter, line, &numbers, file, inputs, choices, res, sorted,
     );
     finish(rt, letter, ran)
 }
 
-// No script has more lines than turns.
 fn obey_script(
     rt: &impl Streams,
     text: &[u8],
@@ -112,17 +110,8 @@ fn obey_script(
     res: &mut [u8],
 ) {
     let mut tally = tell::no_tally();
-    let mut start = 0;
-    let mut turns: u32 = 65536;
-    'lines: while turns > 0 {
-        if text.len() <= start {
-            return;
-        }
-        let line = scripted_files::script::line_at(text, start);
+    for line in text.split(|&byte| byte == b'\n') {
         tally = obey_line(rt, line, file, kept, inputs, choices, res, tally);
-        let size = std::num::wrapping_add_usize(line.len(), 1);
-        start = std::num::wrapping_add_usize(start, size);
-        turns -= 1;
     }
 }
 

@@ -1,13 +1,10 @@
 // What is seen is printed behind its line of the script, and held to what the line expects.
-use accept::{Acceptance, FileRefusal};
-use run_answers::{RunAnswer, RunRefusal};
-use sort_answers::SortRefusal;
-use text::both;
+use questions::Numbered;
 use text::out::{print_decimal, write_all};
 use text::streams::Streams;
 
 // A refusal's number and place by the scope paper; 0 and 0 for success.
-#[derive(Clone, Copy)]
+#[derive(Clone, Copy, Debug, PartialEq, Eq)]
 pub struct Seen(pub u32, pub u32);
 
 // How many expectations there were, and how many were met.
@@ -21,58 +18,15 @@ pub fn no_tally() -> Tally {
     Tally { asked: 0, met: 0 }
 }
 
-pub fn of_file(refusal: FileRefusal) -> Seen {
-    match refusal {
-        FileRefusal::Length => Seen(1, 0),
-        FileRefusal::Sum { block } => Seen(2, block),
-        FileRefusal::Header { block } => Seen(3, block),
-        FileRefusal::RowCount { block } => Seen(4, block),
-        FileRefusal::Unused { block } => Seen(5, block),
-        FileRefusal::Kind { row } => Seen(6, row),
-        FileRefusal::Field { row } => Seen(7, row),
-        FileRefusal::Label { row } => Seen(8, row),
-        FileRefusal::Literal { row } => Seen(9, row),
-        FileRefusal::NoOutput => Seen(10, 0),
-    }
+pub fn refused(refusal: impl Numbered + Copy) -> Seen {
+    Seen(refusal.number(), refusal.place())
 }
 
-pub fn of_check(answer: Acceptance) -> Seen {
+pub fn seen_of<T: Copy, R: Numbered + Copy>(answer: Result<T, R>) -> Seen {
     match answer {
-        Acceptance::Accepted { rows: _, counts: _ } => Seen(0, 0),
-        Acceptance::Refused(refusal) => of_file(refusal),
+        Ok(_) => Seen(0, 0),
+        Err(refusal) => refused(refusal),
     }
-}
-
-fn of_run_refusal(refusal: RunRefusal) -> Seen {
-    match refusal {
-        RunRefusal::File(file) => of_file(file),
-        RunRefusal::Steps => Seen(17, 0),
-        RunRefusal::Lists => Seen(18, 0),
-        RunRefusal::Value => Seen(19, 0),
-        RunRefusal::Memory => Seen(20, 0),
-    }
-}
-
-pub fn of_run(answer: RunAnswer) -> Seen {
-    match answer {
-        RunAnswer::Done => Seen(0, 0),
-        RunAnswer::Refused(refusal) => of_run_refusal(refusal),
-    }
-}
-
-pub fn of_sort_refusal(refusal: SortRefusal) -> Seen {
-    match refusal {
-        SortRefusal::File(file) => of_file(file),
-        SortRefusal::Loop { row } => Seen(22, row),
-        SortRefusal::Memory => Seen(23, 0),
-    }
-}
-
-// Whether the two are the same number and place.
-pub fn alike(value: Seen, expected: Seen) -> bool {
-    let same_number = value.0 == expected.0;
-    let same_place = value.1 == expected.1;
-    both(same_number, same_place)
 }
 
 // ---- printed lines
@@ -84,16 +38,13 @@ pub fn print_number(rt: &impl Streams, value: u64) {
 
 // One expectation more; one that is not met says so in its line.
 pub fn judged(rt: &impl Streams, tally: Tally, right: bool) -> Tally {
-    let asked = std::num::wrapping_add_u32(tally.asked, 1);
-    let met = std::num::wrapping_add_u32(tally.met, scripted_files::bytes::one_if(right));
+    let asked = tally.asked.wrapping_add(1);
+    let met = tally.met.wrapping_add(u32::from(right));
     if !right {
         write_all(rt, 1, b" NOT AS EXPECTED");
     }
     write_all(rt, 1, b"\n");
-    Tally {
-        asked: asked,
-        met: met,
-    }
+    Tally { asked, met }
 }
 
 // A number that is seen.
@@ -109,8 +60,7 @@ pub fn outcome(rt: &impl Streams, tally: Tally, value: Seen, expected: Seen, rig
     if !right {
         write_all(rt, 1, b" and leaves the wrong bytes");
     }
-    let same = alike(value, expected);
-    judged(rt, tally, both(same, right))
+    judged(rt, tally, value == expected && right)
 }
 
 // How many expectations were met.
