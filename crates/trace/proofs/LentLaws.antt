@@ -7,6 +7,7 @@ use mathlib.Core.Option.{Option, none, some}
 use native.Mathlib.Omega.{arith}
 use lib.ListN.{length, take, replicate, length-append}
 use lib.Seq.{take_at}
+use Rattle.std.specs.Prelude.{Result, Ok, Err}
 use Rattle.memory.specs.Fields.{IsBytes}
 use Rattle.netlist.specs.Limits.{fold_work_bytes, fold_clock_entries}
 use Rattle.netlist.specs.Rows.{Row}
@@ -26,19 +27,16 @@ use Rattle.fold_refusals.proofs.EarlyLaws.{fold-number-positive}
 use Rattle.fold_answers.specs.FoldAnswers.{folding_refusal, numbers_in, numbers_of, fold_answered, result_of}
 use Rattle.fold_answers.specs.FoldOutcome.{CoreFolded}
 use Rattle.fold_answers.specs.declared.FoldNumbers.{FoldNumbers}
-use Rattle.fold_answers.specs.declared.Folding.{Folding}
-use Rattle.fold_answers.specs.declared.Folding.TheVariants.{Done, Refused}
 use Rattle.traces.specs.TraceQuestions.{trace_questions, trace_refusal}
 use Rattle.trace_values.specs.Pairs.{FoldedPair}
 use Rattle.trace_answers.specs.Traced.{TraceDone}
 use Rattle.trace_answers.specs.TraceAnswers.{trace_refusal_in}
-use Rattle.trace_answers.specs.declared.TraceRefusal.TheVariants as refusals
-use Rattle.trace_answers.specs.declared.Tracing.{Tracing}
-use Rattle.trace_answers.specs.declared.Tracing.TheVariants as tracing
+use Rattle.trace_answers.specs.declared.TraceRefusal.{TraceRefusal}
+use Rattle.trace_answers.specs.declared.TraceRefusal.TheVariants.{Fold}
 use Rattle.trace_answers.proofs.TracedLaws.{trace-positive, trace-refused, trace-made}
 use Rattle.trace.specs.TracePlans.{TraceMade}
 
-module _ (file : List ℕ) (wish : ℕ) (result result' work work' : List ℕ) (answer : Folding) (core : CoreFolded file wish fold_clock_entries result result' work work' answer) where
+module _ (file : List ℕ) (wish : ℕ) (result result' work work' : List ℕ) (answer : Result FoldNumbers FoldRefusal) (core : CoreFolded file wish fold_clock_entries result result' work work' answer) where
   abbrev folding : Refusal
   folding = fold_refusal file wish (length result) (length work) fold_clock_entries
 
@@ -47,13 +45,13 @@ module _ (file : List ℕ) (wish : ℕ) (result result' work work' : List ℕ) (
   later G k choices inputs trace = elim (fold_netlist (netlist_of file) wish) [ none ↦ [] | some a ↦ trace_questions (netlist_of file) a.phases a.rows G k choices inputs (length trace) ]
 
   -- Fold refuses, and so does Trace.
-  pub lent-refused : (r : FoldRefusal) → answer ≡ Refused r → (G k : ℕ) (choices inputs trace : List ℕ) → TraceDone file wish G k choices inputs (length result) (length work) trace trace (tracing.Refused (refusals.Fold r))
+  pub lent-refused : (r : FoldRefusal) → answer ≡ Err r → (G k : ℕ) (choices inputs trace : List ℕ) → TraceDone file wish G k choices inputs (length result) (length work) trace trace (Err (Fold r))
   unfolding trace_refusal
   lent-refused r e G k choices inputs trace =
       let same : fold_refusal_in r ≡ folding = sym (ap folding_refusal e) ∙ core.done.refusal in
-      trace-refused file wish G k choices inputs (length result) (length work) trace (refusals.Fold r) (same ∙ sym (list-stop folding (later G k choices inputs trace) (omega (arith, fold-number-positive r, ap (λ (q : Refusal). q.number) same))))
+      trace-refused file wish G k choices inputs (length result) (length work) trace (Fold r) (same ∙ sym (list-stop folding (later G k choices inputs trace) (omega (arith, fold-number-positive r, ap (λ (q : Refusal). q.number) same))))
 
-  module _ (n : FoldNumbers) (e : answer ≡ Done n) where
+  module _ (n : FoldNumbers) (e : answer ≡ Ok n) where
     abbrev original : List Row
     original = netlist_of file
 
@@ -123,14 +121,14 @@ module _ (file : List ℕ) (wish : ℕ) (result result' work work' : List ℕ) (
         unfolding trace_refusal
         asked_is = list-next folding (later G k choices inputs trace) (number-none folding passed) ∙ ap (λ (o : Option FoldAnswer). first_refusal (elim o as (λ _. List Refusal) [ none ↦ [] | some b ↦ trace_questions original b.phases b.rows G k choices inputs (length trace) ])) Γ.folds
 
-        traced : IsBytes file → (trace' : List ℕ) (r : Tracing) → TraceMade original a.phases a.rows G k choices inputs trace trace' r → TraceDone file wish G k choices inputs (length result) (length work) trace trace' r
-        traced bytes trace' (tracing.Done T) M =
-            subst (λ (t : ℕ). TraceDone file wish G k choices inputs (length result) (length work) trace trace' (tracing.Done t)) (sym M.steps) (trace-made file wish G k choices inputs (length result) (length work) trace bytes a Γ.folds (M.refusal ∙ sym asked_is) trace' M.written)
-        traced bytes trace' (tracing.Refused q) M =
+        traced : IsBytes file → (trace' : List ℕ) (r : Result ℕ TraceRefusal) → TraceMade original a.phases a.rows G k choices inputs trace trace' r → TraceDone file wish G k choices inputs (length result) (length work) trace trace' r
+        traced bytes trace' (Ok T) M =
+            subst (λ (t : ℕ). TraceDone file wish G k choices inputs (length result) (length work) trace trace' (Ok t)) (sym M.steps) (trace-made file wish G k choices inputs (length result) (length work) trace bytes a Γ.folds (M.refusal ∙ sym asked_is) trace' M.written)
+        traced bytes trace' (Err q) M =
             let same : trace ≡ trace' = sym (M.written ∙ rw (number-some (trace_refusal_in q) (trace-positive q)).0 refl) in
-            subst (λ (t : List ℕ). TraceDone file wish G k choices inputs (length result) (length work) trace t (tracing.Refused q)) same (trace-refused file wish G k choices inputs (length result) (length work) trace q (M.refusal ∙ sym asked_is))
+            subst (λ (t : List ℕ). TraceDone file wish G k choices inputs (length result) (length work) trace t (Err q)) same (trace-refused file wish G k choices inputs (length result) (length work) trace q (M.refusal ∙ sym asked_is))
 
-        pub lent-traced : IsBytes file → (trace' : List ℕ) (r : Tracing) → TraceMade original n.phases (netlist_of (take (size - 0) result')) G k choices inputs trace trace' r → TraceDone file wish G k choices inputs (length result) (length work) trace trace' r
+        pub lent-traced : IsBytes file → (trace' : List ℕ) (r : Result ℕ TraceRefusal) → TraceMade original n.phases (netlist_of (take (size - 0) result')) G k choices inputs trace trace' r → TraceDone file wish G k choices inputs (length result) (length work) trace trace' r
         lent-traced bytes trace' r M = traced bytes trace' r (subst (λ (rows : List Row). TraceMade original a.phases rows G k choices inputs trace trace' r) rows_are (subst (λ (N : ℕ). TraceMade original N (netlist_of (take (size - 0) result')) G k choices inputs trace trace' r) phases-are M))
 
     pub work-long : fold_work_bytes ≤ length work

@@ -1,14 +1,15 @@
 -- Questions 26 to 28 as the code asks them, and what is given to a trace that passes them.
 -- Assumes nothing.
 use Prim.Native.Nat.{ℕ, ◌+◌, ◌-◌, ◌*◌, ◌<◌, ◌≤◌, ◌^◌}
-use mathlib.Core.Path.{◌≡◌, refl, sym, ap, ◌∙◌}
-use mathlib.Core.Bool.{Bool, true, false, not, ◌&&◌}
+use mathlib.Core.Path.{◌≡◌, refl, sym, ◌∙◌}
+use mathlib.Core.Bool.{Bool, true, false, ◌&&◌}
 use mathlib.Core.List.{List, [], ◌∷◌}
 use native.Mathlib.Omega.{arith}
 use native.Mathlib.Nat.{mul-le-mul}
-use lib.Dec.{eqb, leb, ltb}
+use lib.Dec.{eqb, leb}
 use lib.ListN.{length}
-use borrow.Author.Tests.{le-leb, lt-leb, not-true, not-false}
+use borrow.Author.Tests.{le-leb, lt-leb}
+use Rattle.std.specs.Prelude.{Result, Ok, Err}
 use Rattle.memory.specs.Lists.{count_if}
 use Rattle.netlist.specs.Limits.{most_groups, most_phases, most_steps}
 use Rattle.netlist.specs.Rows.{Row, is_input, is_unknown}
@@ -24,15 +25,6 @@ use Rattle.trace_answers.specs.declared.TraceRefusal.{TraceRefusal}
 use Rattle.trace_answers.specs.declared.TraceRefusal.TheVariants.{Groups, Values, Room}
 use Rattle.trace.specs.TracePlans.{TracePlanned}
 use Rattle.trace.specs.declared.TracePlan.{TracePlan}
-use Rattle.trace.specs.declared.TracePlan.TheVariants.{Go, Stop}
-
--- ---- the tests
-
-pub groups-by : (N G k : ℕ) (r a : Bool) → a ≡ leb 1 G && leb G most_groups → r ≡ a && ltb k N → r ≡ groups_right N G k
-groups-by N G k r a e h = rw (h, e)
-
-pub values-by : (choices inputs : List ℕ) (n m : ℕ) (r f l b c : Bool) → l ≡ eqb (length choices) n && eqb (length inputs) m → b ≡ all_binary choices → f ≡ l && b → c ≡ all_binary inputs → r ≡ f && c → r ≡ (eqb (length choices) n && eqb (length inputs) m) && all_binary choices && all_binary inputs
-values-by choices inputs n m r f l b c el eb ef ec er = rw (er, ef, el, eb, ec)
 
 -- ---- the steps are no large number
 
@@ -82,13 +74,6 @@ module _ (file folded : List ℕ) (n m N : ℕ) (F : FoldedPair file folded n m 
 
 -- ---- plans
 
-abbrev is_go : TracePlan → ℕ
-is_go (Go a b d) = 1
-is_go (Stop q) = 0
-
-stop-not-go : (r : TraceRefusal) {kept unknown steps : ℕ} → Stop r ≡ Go kept unknown steps → ⊥
-stop-not-go r e = omega (arith, ap is_go e)
-
 module _ (original : List Row) (N : ℕ) (folded : List Row) (G k : ℕ) (choices inputs : List ℕ) (room : ℕ) where
   -- What is asked from 28 and 27 on.
   abbrev from28 : List Refusal
@@ -100,14 +85,14 @@ module _ (original : List Row) (N : ℕ) (folded : List Row) (G k : ℕ) (choice
   abbrev asked : Refusal
   asked = first_refusal (trace_questions original N folded G k choices inputs room)
 
-  abbrev Planned : TracePlan → Type 0
+  abbrev Planned : Result TracePlan TraceRefusal → Type 0
   Planned plan = TracePlanned original N folded G k choices inputs room plan
 
-  stopped : (r : TraceRefusal) → trace_refusal_in r ≡ asked → Planned (Stop r)
-  stopped r h = record { refusal = h; go = λ kept unknown steps e. absurd (stop-not-go r e) }
+  stopped : (r : TraceRefusal) → trace_refusal_in r ≡ asked → Planned (Err r)
+  stopped r h = record { refusal = h; go = λ p e. cc }
 
   module _ (groups : Bool) (groups-told : groups ≡ groups_right N G k) where
-    pub stops-26 : groups ≡ false → Planned (Stop Groups)
+    pub stops-26 : groups ≡ false → Planned (Err Groups)
     stops-26 h = stopped Groups (sym (list-no 25 (groups_right N G k) from27 (sym groups-told ∙ h)))
 
     pub groups-right : groups ≡ true → groups_right N G k ≡ true
@@ -121,7 +106,7 @@ module _ (original : List Row) (N : ℕ) (folded : List Row) (G k : ℕ) (choice
       after-26 : asked ≡ first_refusal from27
       after-26 = list-yes 26 (groups_right N G k) from27 (groups-right groups-yes)
 
-      pub stops-27 : values ≡ false → Planned (Stop Values)
+      pub stops-27 : values ≡ false → Planned (Err Values)
       stops-27 h = stopped Values (sym (after-26 ∙ list-no 26 (values_right folded G choices inputs) from28 (sym values-are ∙ h)))
 
       module _ (values-yes : values ≡ true) (unknown each steps : ℕ) (unknown-is : unknown ≡ count_if is_unknown original) (each-is : each ≡ count_if is_input original) (steps-are : steps ≡ trace_steps N G k) where
@@ -131,27 +116,11 @@ module _ (original : List Row) (N : ℕ) (folded : List Row) (G k : ℕ) (choice
         after-27 : asked ≡ first_refusal from28
         after-27 = after-26 ∙ list-yes 27 (values_right folded G choices inputs) from28 (sym values-are ∙ values-yes)
 
-        pub stops-28 : room < unknown + steps * each → Planned (Stop Room)
+        pub stops-28 : room < unknown + steps * each → Planned (Err Room)
         stops-28 h = stopped Room (sym (after-27 ∙ list-no 27 (leb (trace_length original (trace_steps N G k)) room) [] (lt-leb (trace_length original (trace_steps N G k)) room (omega (arith, size_is)))))
 
-        pub goes : unknown + steps * each ≤ room → Planned (Go kept unknown steps)
-        goes h =
-            record {
-              refusal = sym (after-27 ∙ list-yes 28 (leb (trace_length original (trace_steps N G k)) room) [] (le-leb (trace_length original (trace_steps N G k)) room (omega (arith, size_is))));
-              go = λ a b d e. go-parts e;
-            }
-          where
-            first : TracePlan → ℕ
-            first (Go a b d) = a
-            first (Stop q) = 0
-
-            second : TracePlan → ℕ
-            second (Go a b d) = b
-            second (Stop q) = 0
-
-            third : TracePlan → ℕ
-            third (Go a b d) = d
-            third (Stop q) = 0
-
-            go-parts : {a b d : ℕ} → Go kept unknown steps ≡ Go a b d → (a ≡ count_if is_input folded) × ((b ≡ count_if is_unknown original) × (d ≡ trace_steps N G k))
-            go-parts e = (sym (ap first e) ∙ kept-is, (sym (ap second e) ∙ unknown-is, sym (ap third e) ∙ steps-are))
+        pub goes : unknown + steps * each ≤ room → Planned (Ok (record { kept = kept; unknown = unknown; steps = steps }))
+        goes h = record {
+          refusal = sym (after-27 ∙ list-yes 28 (leb (trace_length original (trace_steps N G k)) room) [] (le-leb (trace_length original (trace_steps N G k)) room (omega (arith, size_is))));
+          go = λ p e. (cc, (cc, cc));
+        }

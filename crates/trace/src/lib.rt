@@ -11,39 +11,32 @@ ghost use Rattle.trace_values.specs.Pairs.{FoldedPair};
 ghost use Rattle.trace_answers.specs.Traced.{TraceDone, Traced};
 ghost use Rattle.trace.specs.TracePlans.{TracePlanned, TraceMade};
 
-use blockfile::{both, file_bytes};
-use fold_answers::{FoldNumbers, Folding};
+use blockfile::file_bytes;
+use fold_answers::FoldNumbers;
 use netlist::{FOLD_CLOCK_ENTRIES, MOST_GROUPS};
-use trace_answers::{TraceRefusal, Tracing};
+use trace_answers::TraceRefusal;
 
-// The folded netlist's inputs, the original's X registers and its steps, of a trace that is to be made; or why it is not.
+// The folded netlist's inputs, the original's X registers and its steps, of a trace that is to be made.
 #[derive(Clone, Copy)]
-enum TracePlan {
-    Go {
-        kept: usize,
-        unknown: usize,
-        steps: u32,
-    },
-    Stop(TraceRefusal),
+struct TracePlan {
+    kept: usize,
+    unknown: usize,
+    steps: u32,
 }
 
 // 26.
 fn groups_right(groups: u32, phase: u32, phases: u32) -> bool
     ensures { result ≡ groups_right phases groups phase }
 {
-    let some = 1 <= groups;
-    let few = groups <= MOST_GROUPS;
-    let below = phase < phases;
-    both(both(some, few), below)
+    1 <= groups && groups <= MOST_GROUPS && phase < phases
 }
 
 // 27: the folded netlist has `unknown` X registers, and `values` bytes are asked for its inputs.
 fn values_right(choices: &[u8], unknown: usize, inputs: &[u8], values: usize) -> bool
     ensures { result ≡ (eqb (length choices.now) unknown && eqb (length inputs.now) values) && all_binary choices.now && all_binary inputs.now }
 {
-    let lengths = both(choices.len() == unknown, inputs.len() == values);
-    let first = both(lengths, run::all_binary(choices));
-    both(first, run::all_binary(inputs))
+    let lengths = choices.len() == unknown && inputs.len() == values;
+    lengths && run::all_binary(choices) && run::all_binary(inputs)
 }
 
 // How many of the original's steps there are up to phase `phase` of the last group.
@@ -64,19 +57,19 @@ fn plan_trace(
     choices: &[u8],
     inputs: &[u8],
     room: usize,
-) -> TracePlan
+) -> Result<TracePlan, TraceRefusal>
     requires { FoldedPair file.now folded.now numbers.before numbers.after numbers.phases }
     ensures { TracePlanned (netlist_of file.now) numbers.phases (netlist_of folded.now) groups phase choices.now inputs.now room result }
 {
     if !groups_right(groups, phase, numbers.phases) {
-        return TracePlan::Stop(TraceRefusal::Groups);
+        return Err(TraceRefusal::Groups);
     }
     let kept_rows = numbers.after as usize;
     let kept_unknown = trace_columns::count_rows(folded, kept_rows, true);
     let kept = trace_columns::count_rows(folded, kept_rows, false);
     let values = groups as usize * kept;
     if !values_right(choices, kept_unknown, inputs, values) {
-        return TracePlan::Stop(TraceRefusal::Values);
+        return Err(TraceRefusal::Values);
     }
     let rows = numbers.before as usize;
     let unknown = trace_columns::count_rows(file, rows, true);
@@ -84,13 +77,13 @@ fn plan_trace(
     let steps = steps_of(groups, phase, numbers.phases);
     let size = unknown + steps as usize * each;
     if room < size {
-        return TracePlan::Stop(TraceRefusal::Room);
+        return Err(TraceRefusal::Room);
     }
-    TracePlan::Go {
-        kept: kept,
-        unknown: unknown,
-        steps: steps,
-    }
+    Ok(TracePlan {
+        kept,
+        unknown,
+        steps,
+    })
 }
 
 // 26 to 28, and the trace if they are passed.
@@ -104,36 +97,27 @@ fn trace_fold(
     inputs: &[u8],
     work: &mut [u8],
     trace: &mut [u8],
-) -> Tracing
+) -> Result<u32, TraceRefusal>
     requires { FoldedPair file.now folded.now numbers.before numbers.after numbers.phases × (fold_work_bytes ≤ length work.old) }
     ensures { TraceMade (netlist_of file.now) numbers.phases (netlist_of folded.now) groups phase choices.now inputs.now trace.old trace.new result }
 {
     let room = trace.len();
-    let plan = plan_trace(file, numbers, folded, groups, phase, choices, inputs, room);
-    match plan {
-        TracePlan::Stop(refusal) => Tracing::Refused(refusal),
-        TracePlan::Go {
-            kept,
-            unknown,
-            steps,
-        } => {
-            trace_values::put_trace(
-                file,
-                numbers.before as usize,
-                folded,
-                numbers.after as usize,
-                numbers.phases as usize,
-                kept,
-                steps as usize,
-                choices,
-                inputs,
-                work,
-                trace,
-                unknown,
-            );
-            Tracing::Done { steps: steps }
-        }
-    }
+    let plan = plan_trace(file, numbers, folded, groups, phase, choices, inputs, room)?;
+    trace_values::put_trace(
+        file,
+        numbers.before as usize,
+        folded,
+        numbers.after as usize,
+        numbers.phases as usize,
+        plan.kept,
+        plan.steps as usize,
+        choices,
+        inputs,
+        work,
+        trace,
+        plan.unknown,
+    );
+    Ok(plan.steps)
 }
 
 // Fold's questions, then 26 to 28; the trace if all are passed. What is left in result and work is open: Trace clears both.
@@ -147,27 +131,22 @@ fn trace_lent(
     res: &mut [u8],
     work: &mut [u8],
     trace: &mut [u8],
-) -> Tracing
+) -> Result<u32, TraceRefusal>
     ensures { TraceDone file.now wish groups phase choices.now inputs.now (length res.old) (length work.old) trace.old trace.new result }
 {
-    let answer = fold_core::fold_core(file, wish, &mut *res, &mut *work, FOLD_CLOCK_ENTRIES);
-    match answer {
-        Folding::Refused(refusal) => Tracing::Refused(TraceRefusal::Fold(refusal)),
-        Folding::Done(numbers) => {
-            let size = file_bytes(numbers.after);
-            trace_fold(
-                file,
-                numbers,
-                &res[0..size],
-                groups,
-                phase,
-                choices,
-                inputs,
-                work,
-                trace,
-            )
-        }
-    }
+    let numbers = fold_core::fold_core(file, wish, &mut *res, &mut *work, FOLD_CLOCK_ENTRIES)?;
+    let size = file_bytes(numbers.after);
+    trace_fold(
+        file,
+        numbers,
+        &res[0..size],
+        groups,
+        phase,
+        choices,
+        inputs,
+        work,
+        trace,
+    )
 }
 
 // The trace in the memory lent for it; a refusal leaves that as it was. Result and work are cleared on every return.
@@ -181,7 +160,7 @@ pub fn trace(
     res: &mut [u8],
     work: &mut [u8],
     trace: &mut [u8],
-) -> Tracing
+) -> Result<u32, TraceRefusal>
     ensures { Traced file.now wish groups phase choices.now inputs.now res.old res.new work.old work.new trace.old trace.new result }
 {
     let traced = trace_lent(

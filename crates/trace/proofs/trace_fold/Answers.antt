@@ -1,15 +1,16 @@
 -- `trace_fold` meets its contract, by its plan.
 -- Assumes nothing.
-use borrow.Author.Rules.{rules}
+use Rattle.std.proofs.lemmas.Result.{err_from_is_err_and}
 use Rattle.trace.proofs.MadeLaws.{made-stopped, given_by, made-done}
 use Rattle.trace.proofs.trace_fold.Goals as goal
 
-pub put_trace-requires : goal.put_trace-requires
-put_trace-requires c = search (given_by, rules)
+pub returns-in_err-plan : goal.returns-in_err-plan
+returns-in_err-plan c =
+    let p = err_from_is_err_and c.from_residual.result c.from_residual.ensures.1 in
+    rw (p.1, p.2) (made-stopped _ _ _ _ _ c.requires.0 _ _ _ _ _ _ c.plan_trace.ensures _ c.in_err-plan.was)
 
-pub returns-in-Stop : goal.returns-in-Stop
-returns-in-Stop c = search (made-stopped, rules)
+pub put_trace-requires-clause-trace_given : goal.put_trace-requires-clause-trace_given
+put_trace-requires-clause-trace_given c = given_by _ _ _ _ _ c.requires.0 _ _ _ _ _ _ c.plan_trace.ensures _ c.in_ok-plan.was
 
-pub returns-in-Go : goal.returns-in-Go
-returns-in-Go c =
-    made-done _ _ _ _ _ c.requires.0 _ _ _ _ _ _ c.plan_trace-plan.ensures _ _ _ c.in-Go.is _ c.put_trace.ensures
+pub returns : goal.returns
+returns c = made-done _ _ _ _ _ c.requires.0 _ _ _ _ _ _ c.plan_trace.ensures _ c.in_ok-plan.was _ c.put_trace.ensures

@@ -2,21 +2,23 @@
 -- Assumes nothing.
 use native.Mathlib.Omega.{arith}
 use borrow.Author.Rules.{rules}
+use Rattle.std.proofs.lemmas.Result.{err_from_is_err_and}
 use Rattle.trace.proofs.LentLaws.{lent-refused, left-inside, pair-by, work-long, lent-traced}
 use Rattle.trace.proofs.trace_lent.Goals as goal
 
+pub returns-in_err-numbers : goal.returns-in_err-numbers
+returns-in_err-numbers c =
+    let p = err_from_is_err_and c.from_residual.result c.from_residual.ensures.1 in
+    rw (p.1, p.2) (lent-refused _ _ _ _ _ _ _ c.fold_core.ensures _ c.in_err-numbers.was _ _ _ _ _)
+
 pub slice_bounds-trace_fold-end : goal.slice_bounds-trace_fold-end
-slice_bounds-trace_fold-end c = search (left-inside _ _ _ _ _ _ _ c.fold_core-answer.ensures _ c.in-Done.is _ c.file_bytes-size.ensures, rules)
+slice_bounds-trace_fold-end c = left-inside _ _ _ _ _ _ _ c.fold_core.ensures _ c.in_ok-numbers.was _ c.file_bytes-size.ensures
 
 pub trace_fold-requires : goal.trace_fold-requires
 trace_fold-requires c =
-    let core = c.fold_core-answer.ensures in
-    let done = c.in-Done.is in
-    (pair-by _ _ _ _ _ _ _ core _ done _ c.file_bytes-size.ensures, search (work-long _ _ _ _ _ _ _ core _ done, rules))
+    let core = c.fold_core.ensures in
+    (pair-by _ _ _ _ _ _ _ core _ c.in_ok-numbers.was _ c.file_bytes-size.ensures, search (work-long _ _ _ _ _ _ _ core _ c.in_ok-numbers.was, rules))
 
-pub returns-in-Refused : goal.returns-in-Refused
-returns-in-Refused c = lent-refused _ _ _ _ _ _ _ c.fold_core-answer.ensures _ c.in-Refused.is _ _ _ _ _
-
-pub returns-in-Done : goal.returns-in-Done
-returns-in-Done c =
-    lent-traced _ _ _ _ _ _ _ c.fold_core-answer.ensures _ c.in-Done.is _ c.file_bytes-size.ensures _ _ _ _ _ (λ x. omega (arith, c.shared_slice_known-1.given x)) _ _ c.trace_fold.ensures
+pub returns : goal.returns
+returns c =
+    lent-traced _ _ _ _ _ _ _ c.fold_core.ensures _ c.in_ok-numbers.was _ c.file_bytes-size.ensures _ _ _ _ _ (λ x. omega (arith, c.type_inv.file x)) _ _ c.trace_fold.ensures
