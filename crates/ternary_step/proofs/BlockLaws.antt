@@ -6,11 +6,11 @@ use mathlib.Core.List.{List}
 use native.Mathlib.Omega.{arith}
 use Rattle.memory.proofs.FrameLaws.{kept-none, kept-join}
 use Rattle.netlist.specs.Limits.{most_original_rows}
-use Rattle.netlist.specs.FileFormat.{row_offset, netlist_of}
+use Rattle.netlist.specs.FileFormat.{netlist_of}
 use Rattle.netlist.specs.WellFormed.{FoldableRows}
 use Rattle.blockfile.specs.BlockRows.{BlockRows}
 use Rattle.blockfile.specs.Ready.{Ready}
-use Rattle.blockfile.proofs.BlockRowsLaws.{RowsWalked, walk_none, walk-within, walk-offset, walk-small, walk_more, walk-all}
+use Rattle.blockfile.proofs.BlockRowsLaws.{RowsWalked, walk_none, walk-within, walk-small, walk_more, walk-all}
 use Rattle.fold_memory.specs.WorkMap.{value_offset}
 use Rattle.ternary_step.specs.StateMap.{registers_before, AtRow, Evaluated}
 use Rattle.ternary_step.proofs.StepLaws.{ValuesKept}
@@ -44,7 +44,6 @@ module _ {f : List ℕ} {n start stop first t : ℕ} {v : List ℕ} (R : Ready F
 
     -- All rows of the block.
     module _ (last : stop ≤ i) where
-
       pub walked-values : Evaluated (netlist_of f) w t stop
       walked-values = subst (Evaluated (netlist_of f) w t) (walk-all U.rows last) U.values
 
@@ -87,4 +86,3 @@ module _ {f : List ℕ} {t : ℕ} {v : List ℕ} where
           kept = kept-twice v w w' U.kept K;
           values = subst (Evaluated (netlist_of f) w' t) next E;
         }
-

@@ -15,7 +15,7 @@ use Rattle.memory.proofs.ListLaws.{tabulate-length, count-place}
 use Rattle.memory.proofs.FrameLaws.{kept_set, kept-join, u16-kept}
 use Rattle.ternary.specs.Ternary.{code_of, value_of}
 use Rattle.ternary.proofs.RuleLaws.{value-of-code}
-use Rattle.netlist.specs.Limits.{most_original_rows, most_original_registers, last_state}
+use Rattle.netlist.specs.Limits.{most_original_registers, last_state}
 use Rattle.netlist.specs.Rows.{Row, row_at, is_register, constant}
 use Rattle.netlist.specs.Simulation.{literal_value}
 use Rattle.lasso.specs.TernaryRun.{ternary_logic}
@@ -23,7 +23,7 @@ use Rattle.netlist.specs.WellFormed.{FoldableRows}
 use Rattle.netlist.proofs.SimulationLaws.{literal-cong}
 use Rattle.lasso.specs.Generators.{state_value}
 use Rattle.fold_memory.specs.WorkMap.{value_offset, next_offset, state_bytes, state_offset}
-use Rattle.ternary_step.specs.StateMap.{Packed, registers_before, next_of, state_codes, Stored, value_in, step_value, Valued, Coded, literal_in, Evaluated, NextsListed, NextReady, shown_codes, Searched}
+use Rattle.ternary_step.specs.StateMap.{Packed, registers_before, next_of, state_codes, Stored, value_in, step_value, Valued, literal_in, Evaluated, NextsListed, NextReady, shown_codes, Searched}
 use Rattle.ternary_step.proofs.CodeLaws.{packed-small, packed_more}
 use Rattle.ternary_step.proofs.RegisterLaws.{on-next, before-yes, before-no, before-all, codes-register, codes-other, state-held}
 use Rattle.ternary_step.proofs.StateLaws.{IsCode}
@@ -128,7 +128,6 @@ module _ {rows : List Row} (accepted : FoldableRows rows) where
 -- ---- from state m - 1 to state m
 
 module _ {rows : List Row} {w : List ℕ} {m : ℕ} (from : 1 ≤ m) (to : m ≤ last_state) (S : Searched rows w m) where
-
   module _ {n registers : ℕ} {w₁ : List ℕ} (accepted : FoldableRows rows) (few : count_if is_register rows ≤ most_original_registers) (count : n ≡ length rows) (number : registers ≡ count_if is_register rows) (room : state_offset (m + 1) ≤ length w) (K : ValuesKept w w₁) (E : Evaluated rows w₁ (m - 1) n) where
     nexts-valued : NextsListed rows w₁ (length rows)
     nexts-valued x h e = u16-kept K (next_offset (registers_before rows x)) (λ y p q c d. omega arith) ∙ S.nexts x h e

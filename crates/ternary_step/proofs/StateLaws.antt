@@ -1,10 +1,9 @@
 -- The memory's bytes as values of rows and as states of the three-valued run: each function's step from row to row.
 -- Assumes nothing.
-use Prim.Native.Nat.{ℕ, zero, suc, ◌+◌, ◌<◌, ◌≤◌, ◌/◌, ◌%◌}
-use mathlib.Core.Path.{◌≡◌, refl, sym, ap, ◌∙◌}
+use Prim.Native.Nat.{ℕ, zero, suc, ◌<◌, ◌/◌, ◌%◌}
+use mathlib.Core.Path.{◌≡◌, refl, ap, ◌∙◌}
 use mathlib.Core.List.{List}
 use native.Mathlib.Omega.{arith}
-use lib.ListN.{length}
 use Rattle.memory.specs.Fields.{byte_at}
 use Rattle.ternary.specs.Ternary.{Ternary, not3, and3, xor3, mux3, code_of, value_of}
 use Rattle.ternary.proofs.RuleLaws.{value-of-code, code_below}
@@ -14,10 +13,9 @@ use Rattle.netlist.specs.Simulation.{complement_if}
 use Rattle.lasso.specs.TernaryRun.{ternary_logic}
 use Rattle.netlist.specs.WellFormed.{OperandsBelow}
 use Rattle.blockfile.specs.RowCode.{if_known}
-use Rattle.blockfile.proofs.RowCodeLaws.{kind-unknown}
 use Rattle.blockfile.specs.declared.Fields.{Fields}
-use Rattle.fold_memory.specs.WorkMap.{value_offset, state_bytes}
-use Rattle.ternary_step.specs.StateMap.{code_at, value_in, Coded, literal_in, RowToEvaluate, row_in, no_code}
+use Rattle.fold_memory.specs.WorkMap.{value_offset}
+use Rattle.ternary_step.specs.StateMap.{code_at, value_in, literal_in, RowToEvaluate, row_in, no_code}
 
 -- ---- codes
 
@@ -77,4 +75,3 @@ module _ (w : List ℕ) (r : Fields) (base j : ℕ) (R : RowToEvaluate w r base 
 
   pub row_output : (x : ℕ) → r.kind ≡ 6 → x ≡ code_of (literal_in w r.a) → IsValue x
   row_output x e h = rw e h
-

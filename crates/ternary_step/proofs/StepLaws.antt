@@ -305,7 +305,6 @@ module _ {f : List ℕ} {n i j : ℕ} (A : AtRow f n i j) where
   -- ---- the row by the offset at which it stands
 
   module _ {offset : ℕ} (at_row : offset ≡ row_offset i) where
-
     module _ {r : Fields} (read : fields_in r ≡ fields_from f offset) {w : List ℕ} {t base : ℕ} (E : Evaluated (netlist_of f) w t i) (at-state : base ≡ state_offset t) where
       row_read : fields_in r ≡ read_fields f i
       row_read = read ∙ ap (fields_from f) at_row
