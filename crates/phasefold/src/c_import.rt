@@ -2,13 +2,12 @@
 ghost use Rattle.phasefold.specs.ForeignAnswers.{ImportedFlat};
 
 use c_answers::PfWritten;
-use import_answers::Importing;
 
 pub fn pf_import(text: &[u8], res: &mut [u8], work: &mut [u8]) -> PfWritten
     ensures { ImportedFlat text.now res.old res.new work.old work.new result }
 {
     match import::import(text, res, work) {
-        Importing::Done { rows } => c_answers::written(rows),
-        Importing::Refused(refusal) => c_answers::unimported(refusal),
+        Ok(rows) => c_answers::written(rows),
+        Err(refusal) => c_answers::unwritten(refusal),
     }
 }

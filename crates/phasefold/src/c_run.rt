@@ -2,7 +2,6 @@
 ghost use Rattle.phasefold.specs.ForeignAnswers.{RanFlat};
 
 use c_answers::PfRefusal;
-use run_answers::RunAnswer;
 
 pub fn pf_run(
     file: &[u8],
@@ -15,7 +14,7 @@ pub fn pf_run(
     ensures { RanFlat file.now steps choices.now inputs.now res.old res.new work.old work.new result }
 {
     match run::run(file, steps, choices, inputs, res, work) {
-        RunAnswer::Done => c_answers::told(0, 0),
-        RunAnswer::Refused(refusal) => c_answers::run_numbers(refusal),
+        Ok(()) => c_answers::told(0, 0),
+        Err(refusal) => c_answers::refusal_numbers(refusal),
     }
 }

@@ -12,9 +12,9 @@ pub fn pf_show(file: &[u8], block: u32) -> PfShown
     let size = part.len() as u32;
     let offset = c_answers::part_offset(number, block);
     PfShown {
-        number: number,
-        place: place,
-        offset: offset,
-        size: size,
+        number,
+        place,
+        offset,
+        size,
     }
 }

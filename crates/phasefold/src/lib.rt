@@ -1,22 +1,23 @@
 // The phase folder's public library: Check, Count, Show, Sort, Import, Run, Fold and Trace, and a file for each with its form for C, where an answer is a struct of numbers and a slice is a pointer and a length, and one for the interface's number. The exports are those of `phasefold_c`.
 #![tactic(auto)]
 
-pub use accept::{Acceptance, FileRefusal, accept as check};
+pub use accept::{Accepted, FileRefusal, accept as check};
 pub use blockfile::count::Counts;
 pub use clock_list::Clock;
-pub use count::{CountAnswer, count};
+pub use count::count;
 pub use fold::fold;
-pub use fold_answers::{FoldNumbers, Folding};
+pub use fold_answers::FoldNumbers;
 pub use fold_refusals::FoldRefusal;
 pub use import::import;
-pub use import_answers::{ImportRefusal, Importing};
+pub use import_answers::ImportRefusal;
+pub use questions::Numbered;
 pub use run::run;
-pub use run_answers::{RunAnswer, RunRefusal};
+pub use run_answers::RunRefusal;
 pub use show::show;
 pub use sort::sort;
-pub use sort_answers::{SortRefusal, Sorting};
+pub use sort_answers::SortRefusal;
 pub use trace::trace;
-pub use trace_answers::{TraceRefusal, Tracing};
+pub use trace_answers::TraceRefusal;
 
 pub mod c_check;
 pub mod c_count;

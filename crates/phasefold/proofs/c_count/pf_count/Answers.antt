@@ -6,8 +6,8 @@ use Rattle.phasefold.proofs.c_count.pf_count.Goals as goal
 pub counts_numbers-requires : goal.counts_numbers-requires
 counts_numbers-requires c = search counts-fit
 
-pub returns-in-Counted : goal.returns-in-Counted
-returns-in-Counted c = search count-flat
+pub returns-in-Ok : goal.returns-in-Ok
+returns-in-Ok c = search count-flat
 
-pub returns-in-Refused : goal.returns-in-Refused
-returns-in-Refused c = search count-refused-flat
+pub returns-in-Err : goal.returns-in-Err
+returns-in-Err c = search count-refused-flat
