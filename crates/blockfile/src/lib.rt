@@ -1,7 +1,7 @@
 // The rows of a netlist file: where they stand, their fields read and written, and their literals renumbered.
 #![tactic(auto)]
 
-ghost use Rattle.std.specs.Prelude.{◌≡◌, cond, ◌&&◌, ◌+◌, ◌*◌, ◌^◌, ◌<◌, ◌≤◌, length, ltb};
+ghost use Rattle.std.specs.Prelude.{◌≡◌, cond, ◌+◌, ◌*◌, ◌^◌, ◌<◌, ◌≤◌, length, ltb};
 ghost use Rattle.std.proofs.lemmas.List.Edits.{sets};
 ghost use Rattle.memory.specs.Fields.{u16_at};
 ghost use Rattle.netlist.specs.Limits.{most_rows};
@@ -23,12 +23,6 @@ pub const BLOCK_BYTES: usize = 512;
 
 // A row's number has 15 bits, since a literal has 16.
 const ROW_NUMBERS: usize = 32768;
-
-pub fn both(x: bool, y: bool) -> bool
-    ensures { result ≡ x && y }
-{
-    if x { y } else { false }
-}
 
 // A row's fields, as its eight bytes have them.
 #[derive(Clone, Copy)]
