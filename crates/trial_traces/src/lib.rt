@@ -2,14 +2,12 @@
 #![tactic(auto)]
 
 use reference_fold::{Folded, Lent};
+use reference_questions::Refusal;
 use reference_rows::rows::{count_kind, length_of, rows_of};
-use reference_trace::Traced;
-use text::both;
-use text::bytes::{first, least, put, rest, same};
-use trace_answers::Tracing;
+use text::bytes::{first, put, rest};
 use trial_pieces::dice::{chance, lent_of, put_values, roll, roll_from};
 use trial_pieces::pieces::plus;
-use trial_runs::{Sizes, times, unknown_in};
+use trial_runs::{Sizes, number_of, refused, times, unknown_in};
 use trial_tally::tally::{add, add_if, hold};
 use trial_tally::{rooms, tally};
 
@@ -44,7 +42,7 @@ struct Counted {
 
 fn count_all(file: &[u8], fold: &[u8], phases: usize) -> Counted {
     Counted {
-        phases: phases,
+        phases,
         chosen: unknown_in(fold),
         given: count_kind(fold, rows_of(fold), 1),
         unknown: unknown_in(file),
@@ -96,23 +94,22 @@ fn any_phase(seed: &mut u64, phases: usize) -> u32 {
         2 => plus(phases, roll(seed, 300)),
         3 => 4294967295,
         4 | 5 | 6 | 7 => 0,
-        8 | 9 | 10 | 11 => std::num::wrapping_sub_usize(phases, 1),
+        8 | 9 | 10 | 11 => phases.wrapping_sub(1),
         _ => any,
     })
 }
 
 // A list's length: at times one more, or one less where there is one.
 fn any_length(seed: &mut u64, right: usize) -> usize {
-    let less = if right == 0 { 0 } else { right - 1 };
     match roll(seed, 24) {
         0 => plus(right, 1),
-        1 => less,
+        1 => right.saturating_sub(1),
         _ => right,
     }
 }
 
 fn steps_of(groups: u32, phase: u32, phases: usize) -> usize {
-    let before = std::num::wrapping_sub_u32(groups, 1);
+    let before = groups.wrapping_sub(1);
     let whole = times(before as usize, phases);
     plus(plus(whole, phase as usize), 1)
 }
@@ -127,9 +124,9 @@ fn any_asked(seed: &mut u64, wish: u32, counted: Counted) -> Asked {
     let steps = steps_of(groups, phase, counted.phases);
     let size = size_of(counted, steps);
     Asked {
-        wish: wish,
-        groups: groups,
-        phase: phase,
+        wish,
+        groups,
+        phase,
         choices: any_length(seed, counted.chosen),
         inputs: any_length(seed, times(groups as usize, counted.given)),
         result: lent_of(seed, 65536),
@@ -140,7 +137,7 @@ fn any_asked(seed: &mut u64, wish: u32, counted: Counted) -> Asked {
 
 // Zeros and ones, and at times another byte among them.
 fn put_any_values(values: &mut [u8], seed: &mut u64, size: usize) {
-    let all = least(size, values.len());
+    let all = size.min(values.len());
     put_values(values, seed, all);
     let wrong = if chance(seed, 2) { 2 } else { 255 };
     if chance(seed, 16) {
@@ -150,22 +147,7 @@ fn put_any_values(values: &mut [u8], seed: &mut u64, size: usize) {
 
 // ---- both
 
-fn of_trace(answer: Tracing) -> Traced {
-    match answer {
-        Tracing::Done { steps } => Traced {
-            number: 0,
-            place: 0,
-            steps: steps,
-        },
-        Tracing::Refused(refusal) => Traced {
-            number: trace_answers::number_of(refusal),
-            place: trace_answers::place_of(refusal),
-            steps: 0,
-        },
-    }
-}
-
-fn given_inputs<'a>(values: &'a [u8], asked: Asked) -> &'a [u8] {
+fn given_inputs(values: &[u8], asked: Asked) -> &[u8] {
     first(rest(values, asked.choices), asked.inputs)
 }
 
@@ -178,17 +160,17 @@ fn trace(
     res: &mut [u8],
     work: &mut [u8],
     left: &mut [u8],
-) -> Traced {
+) -> Result<u32, Refusal> {
     let choices = first(values, asked.choices);
     let inputs = given_inputs(values, asked);
-    let result_end = least(asked.result, res.len());
-    let work_end = least(asked.work, work.len());
-    let left_end = least(asked.left, left.len());
-    let made = &mut res[0..result_end];
-    let used = &mut work[0..work_end];
-    let trace = &mut left[0..left_end];
+    let result_end = asked.result.min(res.len());
+    let work_end = asked.work.min(work.len());
+    let left_end = asked.left.min(left.len());
+    let made = &mut res[..result_end];
+    let used = &mut work[..work_end];
+    let trace = &mut left[..left_end];
     if ours {
-        of_trace(trace::trace(
+        trace::trace(
             file,
             asked.wish,
             asked.groups,
@@ -198,7 +180,8 @@ fn trace(
             made,
             used,
             trace,
-        ))
+        )
+        .map_err(|refusal| refused(refusal))
     } else {
         reference_trace::trace(
             file,
@@ -217,7 +200,7 @@ fn trace(
 // What is lent of a memory, and some bytes behind it.
 fn same_lent(x: &[u8], y: &[u8], lent: usize) -> bool {
     let size = plus(lent, BEHIND);
-    same(first(x, size), first(y, size))
+    first(x, size) == first(y, size)
 }
 
 // The reference's, in memories that are filled alike; what is left in them is compared.
@@ -229,26 +212,32 @@ fn compare(
     work: &[u8],
     left: &[u8],
     counts: &mut [u64],
-) -> Traced {
-    let mut results = rooms::short_filled();
-    let mut works = rooms::short_filled();
-    let mut lefts = rooms::long_filled();
-    let again: &mut [u8] = &mut results;
-    let cleared: &mut [u8] = &mut works;
-    let expected: &mut [u8] = &mut lefts;
-    let right = trace(file, asked, values, false, again, cleared, expected);
-    let bytes = same_lent(left, expected, asked.left);
-    hold(counts, bytes, tally::TRACE_BYTES);
-    hold(counts, same(res, again), tally::TRACE_RESULTS);
-    hold(counts, same(work, cleared), tally::TRACE_WORKS);
+) -> Result<u32, Refusal> {
+    let mut again = rooms::short_filled();
+    let mut cleared = rooms::short_filled();
+    let mut expected = rooms::long_filled();
+    let right = trace(
+        file,
+        asked,
+        values,
+        false,
+        &mut again,
+        &mut cleared,
+        &mut expected,
+    );
+    hold(
+        counts,
+        same_lent(left, &expected, asked.left),
+        tally::TRACE_BYTES,
+    );
+    hold(counts, res == again.as_slice(), tally::TRACE_RESULTS);
+    hold(counts, work == cleared.as_slice(), tally::TRACE_WORKS);
     right
 }
 
-fn compare_answers(answer: Traced, right: Traced, counts: &mut [u64]) {
-    let verdict = both(answer.number == right.number, answer.place == right.place);
-    let alike = both(verdict, answer.steps == right.steps);
-    add(counts, plus(tally::TRACES, right.number as usize), 1);
-    hold(counts, alike, tally::TRACE_ANSWERS);
+fn compare_answers(answer: Result<u32, Refusal>, right: Result<u32, Refusal>, counts: &mut [u64]) {
+    add(counts, plus(tally::TRACES, number_of(right) as usize), 1);
+    hold(counts, answer == right, tally::TRACE_ANSWERS);
 }
 
 // Trace by both; the trace is left in `left`.
@@ -258,13 +247,11 @@ fn trace_both(
     values: &[u8],
     left: &mut [u8],
     counts: &mut [u64],
-) -> Traced {
-    let mut results = rooms::short_filled();
-    let mut works = rooms::short_filled();
-    let result: &mut [u8] = &mut results;
-    let work: &mut [u8] = &mut works;
-    let answer = trace(file, asked, values, true, result, work, left);
-    let right = compare(file, asked, values, result, work, left, counts);
+) -> Result<u32, Refusal> {
+    let mut result = rooms::short_filled();
+    let mut work = rooms::short_filled();
+    let answer = trace(file, asked, values, true, &mut result, &mut work, left);
+    let right = compare(file, asked, values, &result, &work, left, counts);
     compare_answers(answer, right, counts);
     right
 }
@@ -276,18 +263,18 @@ fn count_groups(groups: u32, number: u32, counts: &mut [u64]) {
     let done = number == 0;
     let refused = number == 26;
     let base = tally::TRACE_LIMITS;
-    add_if(counts, base, both(done, groups == 1));
-    add_if(counts, base + 1, both(done, groups == 512));
-    add_if(counts, base + 2, both(refused, groups == 0));
-    add_if(counts, base + 3, both(refused, groups == 513));
+    add_if(counts, base, done && groups == 1);
+    add_if(counts, base + 1, done && groups == 512);
+    add_if(counts, base + 2, refused && groups == 0);
+    add_if(counts, base + 3, refused && groups == 513);
 }
 
 fn count_phases(phase: usize, phases: usize, number: u32, counts: &mut [u64]) {
     let done = number == 0;
     let base = tally::TRACE_LIMITS;
-    add_if(counts, base + 4, both(done, phase == 0));
-    add_if(counts, base + 5, both(done, plus(phase, 1) == phases));
-    add_if(counts, base + 6, both(number == 26, phase == phases));
+    add_if(counts, base + 4, done && phase == 0);
+    add_if(counts, base + 5, done && plus(phase, 1) == phases);
+    add_if(counts, base + 6, number == 26 && phase == phases);
 }
 
 fn count_lists(asked: Asked, counted: Counted, number: u32, counts: &mut [u64]) {
@@ -296,24 +283,24 @@ fn count_lists(asked: Asked, counted: Counted, number: u32, counts: &mut [u64]) 
     let chosen = asked.choices == counted.chosen;
     let given = asked.inputs == inputs;
     let base = tally::TRACE_LIMITS;
-    let right = both(chosen, given);
+    let right = chosen && given;
     let more = asked.choices == plus(counted.chosen, 1);
     let fewer = plus(asked.choices, 1) == counted.chosen;
     let longer = asked.inputs == plus(inputs, 1);
     let shorter = plus(asked.inputs, 1) == inputs;
-    add_if(counts, base + 7, both(refused, both(given, more)));
-    add_if(counts, base + 8, both(refused, both(given, fewer)));
-    add_if(counts, base + 9, both(refused, both(chosen, longer)));
-    add_if(counts, base + 10, both(refused, both(chosen, shorter)));
-    add_if(counts, base + 11, both(refused, right));
+    add_if(counts, base + 7, refused && given && more);
+    add_if(counts, base + 8, refused && given && fewer);
+    add_if(counts, base + 9, refused && chosen && longer);
+    add_if(counts, base + 10, refused && chosen && shorter);
+    add_if(counts, base + 11, refused && right);
 }
 
 fn count_memory(asked: Asked, size: usize, number: u32, counts: &mut [u64]) {
     let exact = asked.left == size;
     let short = plus(asked.left, 1) == size;
     let base = tally::TRACE_LIMITS;
-    add_if(counts, base + 12, both(number == 0, exact));
-    add_if(counts, base + 13, both(number == 28, short));
+    add_if(counts, base + 12, number == 0 && exact);
+    add_if(counts, base + 13, number == 28 && short);
 }
 
 fn count_limits(asked: Asked, counted: Counted, number: u32, counts: &mut [u64]) {
@@ -335,23 +322,26 @@ fn same_runs(
     values: &[u8],
     left: &[u8],
 ) -> bool {
-    let mut shows = rooms::short_zeros();
-    let mut folds = rooms::short_zeros();
-    let shown: &mut [u8] = &mut shows;
-    let folded: &mut [u8] = &mut folds;
+    let mut shown = rooms::short_zeros();
+    let mut folded = rooms::short_zeros();
     let inputs = first(rest(left, sizes.unknown), times(sizes.steps, sizes.inputs));
-    let done = trial_runs::run(file, sizes.steps, first(left, sizes.unknown), inputs, shown);
+    let done = trial_runs::run(
+        file,
+        sizes.steps,
+        first(left, sizes.unknown),
+        inputs,
+        &mut shown,
+    );
     let choices = first(values, asked.choices);
     let given = given_inputs(values, asked);
-    let again = trial_runs::run(fold, sizes.groups, choices, given, folded);
-    let alike = trial_runs::same_runs(file, fold, sizes, shown, folded);
-    both(both(done, again), alike)
+    let again = trial_runs::run(fold, sizes.groups, choices, given, &mut folded);
+    done && again && trial_runs::same_runs(file, fold, sizes, &shown, &folded)
 }
 
 fn count_runs(sizes: Sizes, counted: Counted, right: bool, counts: &mut [u64]) {
     let each = times(sizes.phases, sizes.inputs);
-    let inputs = std::num::wrapping_sub_usize(each, sizes.group_inputs);
-    let choices = std::num::wrapping_sub_usize(sizes.unknown, counted.chosen);
+    let inputs = each.wrapping_sub(sizes.group_inputs);
+    let choices = sizes.unknown.wrapping_sub(counted.chosen);
     add(counts, tally::TRACED_STEPS, sizes.steps);
     add(counts, tally::INPUTS_DROPPED, inputs);
     add(counts, tally::CHOICES_DROPPED, choices);
@@ -367,50 +357,44 @@ fn try_fold(
     seed: &mut u64,
     counts: &mut [u64],
 ) {
-    let mut given = rooms::long_zeros();
-    let mut lefts = rooms::long_filled();
-    let values: &mut [u8] = &mut given;
-    let left: &mut [u8] = &mut lefts;
+    let mut values = rooms::long_zeros();
+    let mut left = rooms::long_filled();
     let asked = any_asked(seed, wish, counted);
-    put_any_values(values, seed, plus(asked.choices, asked.inputs));
-    let right = trace_both(file, asked, values, left, counts);
-    count_limits(asked, counted, right.number, counts);
-    if right.number != 0 {
+    put_any_values(&mut values, seed, plus(asked.choices, asked.inputs));
+    let right = trace_both(file, asked, &values, &mut left, counts);
+    count_limits(asked, counted, number_of(right), counts);
+    let Ok(steps) = right else {
         return;
-    }
-    let sizes = trial_runs::sizes_of(file, fold, right.steps as usize, counted.phases);
-    let alike = same_runs(file, fold, sizes, asked, values, left);
+    };
+    let sizes = trial_runs::sizes_of(file, fold, steps as usize, counted.phases);
+    let alike = same_runs(file, fold, sizes, asked, &values, &left);
     count_runs(sizes, counted, alike, counts);
 }
 
 // ---- all
 
 // The reference's fold, with enough memory.
-fn fold(file: &[u8], wish: u32, res: &mut [u8]) -> Folded {
-    let mut lists = [0u32; 1024];
-    let list: &mut [u32] = &mut lists;
+fn fold(file: &[u8], wish: u32, res: &mut [u8]) -> Result<Folded, Refusal> {
+    let mut list = [0u32; 1024];
     let lent = Lent {
         result: 65536,
         work: 49152,
         clocks: 256,
     };
-    reference_fold::fold(file, wish, lent, res, list)
+    reference_fold::fold(file, wish, lent, res, &mut list)
 }
 
 fn try_trace(file: &[u8], seed: &mut u64, counts: &mut [u64]) {
-    let mut results = rooms::short_filled();
-    let result: &mut [u8] = &mut results;
+    let mut result = rooms::short_filled();
     let wish = any_wish(seed);
-    let folded = fold(file, wish, result);
-    let done = folded.number == 0;
-    let size = if done { length_of(folded.after) } else { 0 };
-    let fold = first(result, size);
-    let counted = if done {
-        count_all(file, fold, folded.phases as usize)
-    } else {
-        nothing()
-    };
-    try_fold(file, fold, wish, counted, seed, counts);
+    match fold(file, wish, &mut result) {
+        Ok(folded) => {
+            let fold = first(&result, length_of(folded.after));
+            let counted = count_all(file, fold, folded.phases as usize);
+            try_fold(file, fold, wish, counted, seed, counts);
+        }
+        Err(_) => try_fold(file, b"", wish, nothing(), seed, counts),
+    }
 }
 
 // Two traces of a file; their values move no seed.
