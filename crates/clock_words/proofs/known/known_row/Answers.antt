@@ -1,40 +1,20 @@
 -- `known_row` meets its contract: the bytes that it puts are the definition's.
 -- Assumes nothing.
-use native.Mathlib.Omega.{arith}
 use mathlib.Core.Path.{refl, sym, ap, ◌∙◌}
 use lib.Seq.{sets}
-use Rattle.ternary_step.proofs.StepLaws.{row_within, row_small, read-asks, number_fits, number-next}
-use Rattle.fold_memory.specs.WorkMap.{value_offset, known_offset}
+use Rattle.ternary_step.proofs.StepLaws.{row_within, number_fits, number-next}
+use Rattle.fold_memory.specs.WorkMap.{known_offset}
 use Rattle.clock_words.proofs.KnownLaws.{byte-used, word-asks, known-used, known-unused, known_more}
-use borrow.Author.Rules.{rules}
 use Rattle.clock_words.proofs.known.known_row.Goals as goal
-
-pub read_row-fields-requires : goal.read_row-fields-requires
-read_row-fields-requires c = search read-asks
 
 pub count_register-next-requires : goal.count_register-next-requires
 count_register-next-requires c = search number_fits
 
-pub overflow_add-offset : goal.overflow_add-offset
-overflow_add-offset c = search (row_small, rules)
-
-pub bounds-work-offset : goal.bounds-work-offset
-bounds-work-offset c = search (row_small, rules)
-
-pub overflow_cast-p : goal.overflow_cast-p
-overflow_cast-p c = omega (arith, c.slice_known-2-1.given (value_offset c.args.row))
-
 pub clock_word-word-requires : goal.clock_word-word-requires
 clock_word-word-requires c = word-asks c.requires.le_phases.1.1.part (row_within c.requires.at_row) c.requires.le_phases.0 c.requires.le_phases.1.0 (sym (byte-used c.requires.le_phases.1.1.part (row_within c.requires.at_row) c.requires.le_phases.0 c.requires.le_phases.1.0) ∙ sym c.is_used.ensures ∙ c.if-is_used.true) c.requires.at_row.ready.rows.registers c.requires.at_row.number refl
 
-pub put_known-requires : goal.put_known-requires
-put_known-requires c = search row_small
-
 pub returns-then-is_used : goal.returns-then-is_used
 returns-then-is_used c = (number-next c.requires.at_row c.read_row-fields.result c.read_row-fields.ensures.0 c.count_register-next.result c.count_register-next.ensures, known_more c.requires.at_row c.requires.le_phases.1.1 c.put_known.new.work (c.put_known.ensures ∙ ap (sets c.args.work.now (known_offset c.args.row)) (known-used c.requires.le_phases.1.1.part (row_within c.requires.at_row) c.requires.le_phases.0 c.requires.le_phases.1.0 (sym (byte-used c.requires.le_phases.1.1.part (row_within c.requires.at_row) c.requires.le_phases.0 c.requires.le_phases.1.0) ∙ sym c.is_used.ensures ∙ c.if-is_used.true) c.requires.at_row.ready.rows.registers c.requires.at_row.number refl c.clock_word-word.result c.clock_word-word.ensures)))
-
-pub put_known-requires-2 : goal.put_known-requires-2
-put_known-requires-2 c = search row_small
 
 pub returns : goal.returns
 returns c = (number-next c.requires.at_row c.read_row-fields.result c.read_row-fields.ensures.0 c.count_register-next.result c.count_register-next.ensures, known_more c.requires.at_row c.requires.le_phases.1.1 c.put_known-2.new.work (c.put_known-2.ensures ∙ ap (sets c.args.work.now (known_offset c.args.row)) (known-unused c.requires.le_phases.1.1.part (row_within c.requires.at_row) c.requires.le_phases.0 c.requires.le_phases.1.0 (sym (byte-used c.requires.le_phases.1.1.part (row_within c.requires.at_row) c.requires.le_phases.0 c.requires.le_phases.1.0) ∙ sym c.is_used.ensures ∙ c.if-is_used.false))))
