@@ -1,12 +1,13 @@
 // Import of texts by chance, by the product and by the reference: answers, every byte of result and work. What is imported is checked, sorted again, run beside the text's own equations, and folded if it is small.
-use import_answers::Importing;
-use reference_import::sorting::Sorted;
-use text::both;
-use text::bytes::{first, least, same};
-use trial_operations::files::said;
+ghost use Rattle.std.specs.Prelude.{◌<◌};
+
+use reference_questions::Refusal;
+use text::bytes::first;
 use trial_pieces::dice::lent_of;
 use trial_pieces::pieces::plus;
+use trial_runs::{number_of, refused};
 use trial_tally::rooms;
+use trial_tally::rooms::{LONG_LIST, LONG_PAIRS, LONG_TABLE, SHORT_LIST, SHORT_PAIRS, SHORT_TABLE};
 use trial_tally::tally::{add, hold};
 use trial_uses::Plan;
 
@@ -27,59 +28,37 @@ const LEAST_WORK: usize = 196608;
 
 // ---- both
 
-// The product's answer in the reference's form.
-fn of_import(answer: Importing) -> Sorted {
-    match answer {
-        Importing::Done { rows } => Sorted {
-            number: 0,
-            place: 0,
-            rows: rows,
-        },
-        Importing::Refused(refusal) => {
-            let number = import_answers::number_of(refusal);
-            Sorted {
-                number: number,
-                place: import_answers::place_of(refusal),
-                rows: 0,
-            }
-        }
-    }
-}
-
 // What both answered is counted and compared.
-fn compare_answers(answer: Sorted, right: Sorted, tally: &mut [u64]) {
-    let verdict = both(answer.number == right.number, answer.place == right.place);
+fn compare_answers(answer: Result<u32, Refusal>, right: Result<u32, Refusal>, tally: &mut [u64]) {
     add(tally, trial_tally::tally::ALL_IMPORTS, 1);
     add(
         tally,
-        plus(trial_tally::tally::IMPORTS, right.number as usize),
+        plus(trial_tally::tally::IMPORTS, number_of(right) as usize),
         1,
     );
-    hold(
-        tally,
-        both(verdict, answer.rows == right.rows),
-        trial_tally::tally::IMPORT_ANSWERS,
-    );
+    hold(tally, answer == right, trial_tally::tally::IMPORT_ANSWERS);
 }
 
-// Import by the reference, which has a table for all lines of the text.
-fn import_short(text: &[u8], res: &mut [u8], work: &mut [u8]) -> Sorted {
-    let mut tables = rooms::short_table();
-    let mut lists = rooms::short_list();
-    reference_import::importing::import(text, &mut tables, &mut lists, res, work)
+// Import by the reference, with a table and a list of these lengths.
+fn import_in<const TABLE: usize, const LIST: usize>(
+    text: &[u8],
+    res: &mut [u8],
+    work: &mut [u8],
+) -> Result<u32, Refusal>
+    requires table { TABLE < 1048576 }
+    requires list { LIST < 1048576 }
+{
+    let mut table = [0u32; TABLE];
+    let mut list = [0u32; LIST];
+    reference_import::importing::import(text, &mut table, &mut list, res, work)
 }
 
-fn import_long(text: &[u8], res: &mut [u8], work: &mut [u8]) -> Sorted {
-    let mut tables = rooms::long_table();
-    let mut lists = rooms::long_list();
-    reference_import::importing::import(text, &mut tables, &mut lists, res, work)
-}
-
-fn import_any(text: &[u8], res: &mut [u8], work: &mut [u8]) -> Sorted {
+// The same with a table for all lines of the text.
+fn import_any(text: &[u8], res: &mut [u8], work: &mut [u8]) -> Result<u32, Refusal> {
     if rooms::is_short(text) {
-        import_short(text, res, work)
+        import_in::<SHORT_TABLE, SHORT_LIST>(text, res, work)
     } else {
-        import_long(text, res, work)
+        import_in::<LONG_TABLE, LONG_LIST>(text, res, work)
     }
 }
 
@@ -90,10 +69,10 @@ fn import_lent(
     work_end: usize,
     res: &mut [u8],
     work: &mut [u8],
-) -> Sorted {
-    let written = least(result_end, res.len());
-    let used = least(work_end, work.len());
-    import_any(text, &mut res[0..written], &mut work[0..used])
+) -> Result<u32, Refusal> {
+    let written = result_end.min(res.len());
+    let used = work_end.min(work.len());
+    import_any(text, &mut res[..written], &mut work[..used])
 }
 
 // The same in memories that are filled alike; what is left in them is compared.
@@ -104,29 +83,37 @@ fn import_again(
     res: &[u8],
     work: &[u8],
     tally: &mut [u64],
-) -> Sorted {
-    let mut results = rooms::long_filled();
-    let mut works = rooms::long_filled();
-    let expected: &mut [u8] = &mut results;
-    let cleared: &mut [u8] = &mut works;
-    let right = import_lent(text, result_end, work_end, expected, cleared);
+) -> Result<u32, Refusal> {
+    let mut expected = rooms::long_filled();
+    let mut cleared = rooms::long_filled();
+    let right = import_lent(text, result_end, work_end, &mut expected, &mut cleared);
     hold(
         tally,
-        same(res, expected),
+        res == expected.as_slice(),
         trial_tally::tally::IMPORT_RESULTS,
     );
-    hold(tally, same(work, cleared), trial_tally::tally::IMPORT_WORKS);
+    hold(
+        tally,
+        work == cleared.as_slice(),
+        trial_tally::tally::IMPORT_WORKS,
+    );
     right
 }
 
-fn import_both(text: &[u8], seed: &mut u64, res: &mut [u8], tally: &mut [u64]) -> Sorted {
-    let mut works = rooms::long_filled();
-    let work: &mut [u8] = &mut works;
-    let result_end = least(lent_of(seed, LEAST_RESULT), res.len());
-    let work_end = least(lent_of(seed, LEAST_WORK), work.len());
-    let answer = import::import(text, &mut res[0..result_end], &mut work[0..work_end]);
-    let right = import_again(text, result_end, work_end, res, work, tally);
-    compare_answers(of_import(answer), right, tally);
+fn import_both(
+    text: &[u8],
+    seed: &mut u64,
+    res: &mut [u8],
+    tally: &mut [u64],
+) -> Result<u32, Refusal> {
+    let mut work = rooms::long_filled();
+    let result_end = lent_of(seed, LEAST_RESULT).min(res.len());
+    let work_end = lent_of(seed, LEAST_WORK).min(work.len());
+    let answer = import::import(text, &mut res[..result_end], &mut work[..work_end]).map_err(
+        |refusal| refused(refusal),
+    );
+    let right = import_again(text, result_end, work_end, res, &work, tally);
+    compare_answers(answer, right, tally);
     right
 }
 
@@ -134,10 +121,9 @@ fn import_both(text: &[u8], seed: &mut u64, res: &mut [u8], tally: &mut [u64]) -
 
 // Folded with wish 0, as the other files are; its differences count as one.
 fn try_fold(file: &[u8], seed: &mut u64, tally: &mut [u64]) {
-    let mut counts = trial_tally::tally::fresh();
-    let own: &mut [u64] = &mut counts;
-    trial_operations::folds::try_wish(file, 0, seed, own);
-    let done = trial_tally::tally::count(own, 0);
+    let mut own = trial_tally::tally::fresh();
+    trial_operations::folds::try_wish(file, 0, seed, &mut own);
+    let done = trial_tally::tally::count(&own, 0);
     add(
         tally,
         trial_tally::tally::IMPORTS_FOLDED,
@@ -145,13 +131,13 @@ fn try_fold(file: &[u8], seed: &mut u64, tally: &mut [u64]) {
     );
     hold(
         tally,
-        trial_tally::tally::differences(own) == 0,
+        trial_tally::tally::differences(&own) == 0,
         trial_tally::tally::IMPORT_FOLDS,
     );
 }
 
 fn try_imported(text: &[u8], file: &[u8], seed: &mut u64, tally: &mut [u64]) {
-    let accepted = trial_operations::files::check_right(file, said(0, 0));
+    let accepted = trial_operations::files::check_right(file, Ok(()));
     hold(tally, accepted, trial_tally::tally::IMPORT_UNACCEPTED);
     hold(
         tally,
@@ -165,37 +151,35 @@ fn try_imported(text: &[u8], file: &[u8], seed: &mut u64, tally: &mut [u64]) {
 }
 
 fn try_import(text: &[u8], seed: &mut u64, tally: &mut [u64]) {
-    let mut results = rooms::long_filled();
-    let result: &mut [u8] = &mut results;
-    let answer = import_both(text, seed, result, tally);
-    if answer.number == 0 {
-        let size = reference_rows::rows::length_of(answer.rows);
-        try_imported(text, first(result, size), seed, tally);
+    let mut result = rooms::long_filled();
+    if let Ok(rows) = import_both(text, seed, &mut result, tally) {
+        let size = reference_rows::rows::length_of(rows);
+        try_imported(text, first(&result, size), seed, tally);
     }
 }
 
 // ---- texts
 
-// The answer is the text's length.
-fn put_short(seed: &mut u64, plan: Plan, text: &mut [u8]) -> usize {
-    let mut names = rooms::short_list();
-    let mut order = rooms::short_list();
-    let mut uses = rooms::short_pairs();
-    trial_texts::put_text(seed, plan, &mut names, &mut order, &mut uses, text)
-}
-
-fn put_long(seed: &mut u64, plan: Plan, text: &mut [u8]) -> usize {
-    let mut names = rooms::long_list();
-    let mut order = rooms::long_list();
-    let mut uses = rooms::long_pairs();
+// A text made with lists of these lengths; the answer is its length.
+fn put_in<const LIST: usize, const PAIRS: usize>(
+    seed: &mut u64,
+    plan: Plan,
+    text: &mut [u8],
+) -> usize
+    requires list { LIST < 1048576 }
+    requires pairs { PAIRS < 1048576 }
+{
+    let mut names = [0u32; LIST];
+    let mut order = [0u32; LIST];
+    let mut uses = [0u32; PAIRS];
     trial_texts::put_text(seed, plan, &mut names, &mut order, &mut uses, text)
 }
 
 fn put_text(seed: &mut u64, plan: Plan, text: &mut [u8]) -> usize {
-    if trial_uses::rows_of(plan) < 8192 {
-        put_short(seed, plan, text)
+    if trial_uses::rows_of(plan) < SHORT_LIST {
+        put_in::<SHORT_LIST, SHORT_PAIRS>(seed, plan, text)
     } else {
-        put_long(seed, plan, text)
+        put_in::<LONG_LIST, LONG_PAIRS>(seed, plan, text)
     }
 }
 
@@ -206,17 +190,16 @@ fn try_damaged(seed: &mut u64, text: &mut [u8], size: usize, tally: &mut [u64]) 
 
 // A text by this plan, and if that is asked for the same damaged.
 fn try_plan(seed: &mut u64, plan: Plan, damaged: bool, tally: &mut [u64]) {
-    let mut room = rooms::text_zeros();
-    let text: &mut [u8] = &mut room;
-    let size = put_text(seed, plan, text);
-    try_import(first(text, size), seed, tally);
+    let mut text = rooms::text_zeros();
+    let size = put_text(seed, plan, &mut text);
+    try_import(first(&text, size), seed, tally);
     if damaged {
-        try_damaged(seed, text, size, tally);
+        try_damaged(seed, &mut text, size, tally);
     }
 }
 
 fn try_many(seed: &mut u64, count: usize, most: usize, tally: &mut [u64]) {
-    'texts: for i in 0..count {
+    for _ in 0..count {
         let plan = trial_texts::any_plan(seed, most);
         let damaged = trial_pieces::dice::chance(seed, 2);
         try_plan(seed, plan, damaged, tally);
@@ -248,8 +231,7 @@ fn long_fault(i: usize) -> usize {
 }
 
 fn try_long(seed: &mut u64, tally: &mut [u64]) {
-    let end: usize = LONG;
-    'texts: for i in 0..end {
+    for i in 0..LONG {
         let rows = long_rows(seed, i);
         let plan = trial_texts::long_plan(seed, rows, long_fault(i));
         try_plan(seed, plan, false, tally);
@@ -258,18 +240,17 @@ fn try_long(seed: &mut u64, tally: &mut [u64]) {
 
 // The long texts are counted apart.
 fn try_all_long(tally: &mut [u64]) {
-    let mut counts = trial_tally::tally::fresh();
-    let own: &mut [u64] = &mut counts;
+    let mut own = trial_tally::tally::fresh();
     let mut seed = LONG_SEED;
-    try_long(&mut seed, own);
+    try_long(&mut seed, &mut own);
     trial_tally::tally::take(
-        own,
+        &own,
         trial_tally::tally::IMPORTS,
         26,
         tally,
         trial_tally::tally::LONG_IMPORTS,
     );
-    trial_tally::tally::take_differences(own, tally);
+    trial_tally::tally::take_differences(&own, tally);
 }
 
 pub fn try_all(tally: &mut [u64]) {

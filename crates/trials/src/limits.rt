@@ -1,14 +1,13 @@
 // Files at the limits of a file: so many blocks that byte 3 of their heads counts, the most blocks, and one more. Heads are
 // damaged and blocks exchanged, and Run and Sort are lent what they ask for by the rows, or a byte less. All of this has a seed and counts of its own.
-use reference_questions::Verdict;
-use reference_rows::rows::{count_kind, row_at, rows_of};
+use reference_questions::Refusal;
+use reference_rows::rows::{Row, count_kind, kind_at, row_at, rows_of};
 use reference_writing::writer::seal;
-use run_answers::RunAnswer;
-use text::bytes::{first, get, least, put, rest, same};
-use trial_netlists::netlists::Style;
-use trial_operations::files::said;
+use text::bytes::{first, get, put, rest};
+use trial_netlists::netlists::{PLAIN, Style};
 use trial_pieces::dice::{plain, put_values, roll, roll_from};
-use trial_pieces::pieces::{cells, plus};
+use trial_pieces::pieces::plus;
+use trial_runs::{number_of, refused};
 use trial_tally::rooms;
 use trial_tally::tally::{add, add_if, hold};
 
@@ -31,12 +30,9 @@ const STEPS: usize = 2;
 // So many nodes by chance, and inputs up to so many rows.
 fn style_of(nodes: usize, rows: usize) -> Style {
     Style {
-        nodes: nodes,
-        outputs: 16,
-        gates: 40,
-        long: false,
-        registers: 0,
-        rows: rows,
+        nodes,
+        rows,
+        ..PLAIN
     }
 }
 
@@ -50,7 +46,7 @@ fn put_long(file: &mut [u8], seed: &mut u64, rows: usize) -> usize {
 fn rows_in(seed: &mut u64, blocks: usize) -> usize {
     let any = roll_from(seed, 1, 63);
     let last = if blocks == MOST_BLOCKS { 63 } else { any };
-    let before = std::num::wrapping_sub_usize(blocks, 1);
+    let before = blocks.wrapping_sub(1);
     plus(63 * (before % 1024), last)
 }
 
@@ -70,32 +66,31 @@ fn blocks_of(i: usize) -> usize {
     }
 }
 
-fn try_show(file: &[u8], right: Verdict, block: usize, tally: &mut [u64]) {
+fn try_show(file: &[u8], right: Result<(), Refusal>, block: usize, tally: &mut [u64]) {
     let number = (block % 65536) as u32;
     let expected = trial_operations::files::of_show(right, file.len() / 512, number);
     let alike = trial_operations::files::show_right(file, number, expected);
-    add_if(tally, trial_tally::tally::LONG_SHOWN, expected.number == 0);
+    add_if(tally, trial_tally::tally::LONG_SHOWN, expected.is_ok());
     add_if(
         tally,
         trial_tally::tally::LONG_PAST_END,
-        expected.number == 21,
+        number_of(expected) == 21,
     );
     hold(tally, alike, trial_tally::tally::SHOWS);
 }
 
 // Show of each block, and of the one after the last.
-fn try_shows(file: &[u8], right: Verdict, tally: &mut [u64]) {
-    let end = plus(file.len() / 512, 1);
-    'blocks: for block in 0..end {
+fn try_shows(file: &[u8], right: Result<(), Refusal>, tally: &mut [u64]) {
+    for block in 0..plus(file.len() / 512, 1) {
         try_show(file, right, block, tally);
     }
 }
 
 // Check, by both; the answer is counted by its number from `base` on.
-fn try_check(file: &[u8], base: usize, tally: &mut [u64]) -> Verdict {
+fn try_check(file: &[u8], base: usize, tally: &mut [u64]) -> Result<(), Refusal> {
     let right = reference_questions::check(file);
     let alike = trial_operations::files::check_right(file, right);
-    add(tally, plus(base, right.number as usize), 1);
+    add(tally, plus(base, number_of(right) as usize), 1);
     hold(tally, alike, trial_tally::tally::CHECKS);
     right
 }
@@ -120,72 +115,61 @@ fn take_made(own: &[u64], tally: &mut [u64]) {
     trial_tally::tally::take_differences(own, tally);
 }
 
-// The first gate from `from` on, or the number of rows.
-fn next_gate(file: &[u8], from: usize, rows: usize) -> usize {
-    'rows: for at in from..rows {
-        let kind = reference_rows::rows::kind_at(file, at);
-        if kind >= 3 && kind <= 5 {
-            return at;
-        }
-    }
-    rows
+// The first gate from `from` on.
+fn next_gate(file: &[u8], from: usize, rows: usize) -> Option<usize> {
+    (from..rows).find(|&at| (3..=5).contains(&kind_at(file, at)))
 }
 
 // A gate by chance names itself; if there is none from some row on, nothing is changed.
 fn put_loop(file: &mut [u8], seed: &mut u64, rows: usize) {
-    let at = next_gate(file, roll(seed, rows), rows);
-    let row = row_at(file, at);
-    let looped = cells(row.kind, 0, plain(at), row.b, row.c);
-    if at < rows {
+    if let Some(at) = next_gate(file, roll(seed, rows), rows) {
+        let looped = Row {
+            reset: 0,
+            a: plain(at),
+            ..row_at(file, at)
+        };
         trial_netlists::damage::put_damaged(file, at, looped);
     }
 }
 
 // Sort of the file with its nodes in any order and a loop.
 fn try_loop(file: &[u8], seed: u64, tally: &mut [u64]) {
-    let mut room = rooms::long_zeros();
-    let mixed: &mut [u8] = &mut room;
+    let mut mixed = rooms::long_zeros();
     let mut own = seed;
-    trial_mixing::put_mixed(file, &mut own, mixed);
-    put_loop(mixed, &mut own, rows_of(file));
-    trial_operations::sorts::try_sort(first(mixed, file.len()), &mut own, tally);
+    trial_mixing::put_mixed(file, &mut own, &mut mixed);
+    put_loop(&mut mixed, &mut own, rows_of(file));
+    trial_operations::sorts::try_sort(first(&mixed, file.len()), &mut own, tally);
 }
 
 fn try_made(file: &[u8], seed: u64, tally: &mut [u64]) {
-    let mut counts = trial_tally::tally::fresh();
-    let own: &mut [u64] = &mut counts;
-    trial_operations::folds::try_alone(file, 0, 256, own);
-    trial_operations::sorts::try_mixed(file, seed, own);
-    try_loop(file, seed, own);
-    take_made(own, tally);
+    let mut own = trial_tally::tally::fresh();
+    let _ = trial_operations::folds::try_alone(file, 0, 256, &mut own);
+    trial_operations::sorts::try_mixed(file, seed, &mut own);
+    try_loop(file, seed, &mut own);
+    take_made(&own, tally);
 }
 
 // Sort of a file of the most rows, most of them gates, with its nodes in any order.
 fn try_gates(seed: &mut u64, tally: &mut [u64]) {
-    let mut room = rooms::long_zeros();
-    let mut mixed_room = rooms::long_zeros();
-    let mut counts = trial_tally::tally::fresh();
-    let file: &mut [u8] = &mut room;
-    let mixed: &mut [u8] = &mut mixed_room;
-    let own: &mut [u64] = &mut counts;
-    let size = trial_netlists::netlists::put_netlist(file, seed, style_of(32200, 32256));
-    trial_mixing::put_shuffled(first(file, size), seed, mixed);
-    trial_operations::sorts::try_sort(first(mixed, size), seed, own);
-    take_made(own, tally);
+    let mut file = rooms::long_zeros();
+    let mut mixed = rooms::long_zeros();
+    let mut own = trial_tally::tally::fresh();
+    let size = trial_netlists::netlists::put_netlist(&mut file, seed, style_of(32200, 32256));
+    trial_mixing::put_shuffled(first(&file, size), seed, &mut mixed);
+    trial_operations::sorts::try_sort(first(&mixed, size), seed, &mut own);
+    take_made(&own, tally);
 }
 
 fn try_length(blocks: usize, seed: &mut u64, tally: &mut [u64]) {
-    let mut room = rooms::long_zeros();
-    let file: &mut [u8] = &mut room;
+    let mut file = rooms::long_zeros();
     let rows = rows_in(seed, blocks);
-    let size = put_long(file, seed, rows);
-    try_questions(first(file, size), tally);
-    try_made(first(file, size), *seed, tally);
+    let size = put_long(&mut file, seed, rows);
+    try_questions(first(&file, size), tally);
+    try_made(first(&file, size), *seed, tally);
 }
 
 fn try_lengths(seed: &mut u64, tally: &mut [u64]) {
-    let end: usize = LENGTHS;
-    'lengths: for i in 0..end {
+    for i in 0..LENGTHS {
         try_length(blocks_of(i), seed, tally);
     }
 }
@@ -214,14 +198,13 @@ fn change_number(file: &mut [u8], block: usize, what: usize) {
 
 fn try_head(file: &mut [u8], block: usize, what: usize, tally: &mut [u64]) {
     change_number(file, block, what);
-    try_check(file, trial_tally::tally::HEADS, tally);
+    let _ = try_check(file, trial_tally::tally::HEADS, tally);
     change_number(file, block, what);
 }
 
 // The head of each block, in three ways.
 fn try_heads(file: &mut [u8], tally: &mut [u64]) {
-    let end = file.len() / 512;
-    'blocks: for block in 0..end {
+    for block in 0..file.len() / 512 {
         try_head(file, block, 0, tally);
         try_head(file, block, 1, tally);
         try_head(file, block, 2, tally);
@@ -241,38 +224,35 @@ fn exchange_bytes(file: &mut [u8], x: usize, y: usize) {
 fn exchange(file: &mut [u8], x: usize, y: usize) {
     let first = 512 * (x % MOST_BLOCKS);
     let second = 512 * (y % MOST_BLOCKS);
-    let end: usize = 512;
-    'bytes: for i in 0..end {
+    for i in 0..512 {
         exchange_bytes(file, plus(first, i), plus(second, i));
     }
 }
 
 fn try_exchange(file: &mut [u8], x: usize, y: usize, tally: &mut [u64]) {
     exchange(file, x, y);
-    try_check(file, trial_tally::tally::EXCHANGES, tally);
+    let _ = try_check(file, trial_tally::tally::EXCHANGES, tally);
     exchange(file, x, y);
 }
 
 // How many blocks have one that stands so many later.
 fn pairs_of(blocks: usize, apart: usize) -> usize {
-    if apart < blocks { blocks - apart } else { 0 }
+    blocks.saturating_sub(apart)
 }
 
 // Each block with the one that stands so many later.
 fn try_exchanges(file: &mut [u8], apart: usize, tally: &mut [u64]) {
-    let end = pairs_of(file.len() / 512, apart);
-    'blocks: for x in 0..end {
+    for x in 0..pairs_of(file.len() / 512, apart) {
         try_exchange(file, x, plus(x, apart), tally);
     }
 }
 
 // A file of the most blocks, with heads changed, and with blocks that are neighbours or whose numbers differ in byte 3 alone exchanged.
 fn try_damaged(seed: &mut u64, tally: &mut [u64]) {
-    let mut room = rooms::long_zeros();
-    let all: &mut [u8] = &mut room;
+    let mut all = rooms::long_zeros();
     let rows = rows_in(seed, MOST_BLOCKS);
-    let size = least(put_long(all, seed, rows), all.len());
-    let file: &mut [u8] = &mut all[0..size];
+    let size = put_long(&mut all, seed, rows).min(all.len());
+    let file = &mut all[..size];
     try_heads(file, tally);
     try_exchanges(file, 256, tally);
     try_exchanges(file, 1, tally);
@@ -299,17 +279,6 @@ fn work_of(i: usize) -> usize {
     }
 }
 
-// The product's answer in the reference's form.
-fn of_run(answer: RunAnswer) -> Verdict {
-    match answer {
-        RunAnswer::Done => said(0, 0),
-        RunAnswer::Refused(refusal) => {
-            let number = run_answers::number_of(refusal);
-            said(number, run_answers::place_of(refusal))
-        }
-    }
-}
-
 // Run by the reference, in memories that are filled alike, and of which as much is lent; what is left in them is compared.
 fn run_again(
     file: &[u8],
@@ -319,61 +288,61 @@ fn run_again(
     shown: &[u8],
     work: &[u8],
     tally: &mut [u64],
-) -> Verdict {
-    let mut room = rooms::short_filled();
-    let mut works = rooms::short_filled();
-    let expected: &mut [u8] = &mut room;
-    let cleared: &mut [u8] = &mut works;
-    let used = least(work_end, cleared.len());
+) -> Result<(), Refusal> {
+    let mut expected = rooms::short_filled();
+    let mut cleared = rooms::short_filled();
+    let used = work_end.min(cleared.len());
     let right = reference_run::running::run(
         file,
         STEPS,
         choices,
         inputs,
-        expected,
-        &mut cleared[0..used],
+        &mut expected,
+        &mut cleared[..used],
     );
     hold(
         tally,
-        same(shown, expected),
+        shown == expected.as_slice(),
         trial_tally::tally::RUN_RESULTS,
     );
-    hold(tally, same(work, cleared), trial_tally::tally::RUN_WORKS);
+    hold(
+        tally,
+        work == cleared.as_slice(),
+        trial_tally::tally::RUN_WORKS,
+    );
     right
 }
 
 // What both answered is counted and compared.
-fn compare_runs(answer: Verdict, right: Verdict, tally: &mut [u64]) {
-    let alike = trial_operations::files::same_verdict(answer, right);
+fn compare_runs(answer: Result<(), Refusal>, right: Result<(), Refusal>, tally: &mut [u64]) {
     add(
         tally,
-        plus(trial_tally::tally::WORK_RUNS, right.number as usize),
+        plus(trial_tally::tally::WORK_RUNS, number_of(right) as usize),
         1,
     );
-    hold(tally, alike, trial_tally::tally::RUN_ANSWERS);
+    hold(tally, answer == right, trial_tally::tally::RUN_ANSWERS);
 }
 
 fn run_lent(file: &[u8], choices: &[u8], inputs: &[u8], work_lent: usize, tally: &mut [u64]) {
-    let mut room = rooms::short_filled();
-    let mut works = rooms::short_filled();
-    let shown: &mut [u8] = &mut room;
-    let work: &mut [u8] = &mut works;
-    let end = least(work_lent, work.len());
+    let mut shown = rooms::short_filled();
+    let mut work = rooms::short_filled();
+    let end = work_lent.min(work.len());
     let steps = STEPS as u32;
-    let answer = run::run(file, steps, choices, inputs, shown, &mut work[0..end]);
-    let right = run_again(file, choices, inputs, end, shown, work, tally);
-    compare_runs(of_run(answer), right, tally);
+    let answer = run::run(file, steps, choices, inputs, &mut shown, &mut work[..end]).map_err(
+        |refusal| refused(refusal),
+    );
+    let right = run_again(file, choices, inputs, end, &shown, &work, tally);
+    compare_runs(answer, right, tally);
 }
 
 // Run with this much work, on values by chance.
 fn try_run(file: &[u8], work_lent: usize, seed: &mut u64, tally: &mut [u64]) {
-    let mut lists = rooms::long_zeros();
-    let values: &mut [u8] = &mut lists;
+    let mut values = rooms::long_zeros();
     let unknown = trial_runs::unknown_in(file);
     let each = count_kind(file, rows_of(file), 1);
     let size = plus(unknown, trial_runs::times(STEPS, each));
-    put_values(values, seed, size);
-    let given = first(values, size);
+    put_values(&mut values, seed, size);
+    let given = first(&values, size);
     run_lent(
         file,
         first(given, unknown),
@@ -384,37 +353,33 @@ fn try_run(file: &[u8], work_lent: usize, seed: &mut u64, tally: &mut [u64]) {
 }
 
 fn try_sort(file: &[u8], work_lent: usize, tally: &mut [u64]) {
-    let mut counts = trial_tally::tally::fresh();
-    let own: &mut [u64] = &mut counts;
-    trial_operations::sorts::try_work(file, work_lent, own);
+    let mut own = trial_tally::tally::fresh();
+    trial_operations::sorts::try_work(file, work_lent, &mut own);
     trial_tally::tally::take(
-        own,
+        &own,
         trial_tally::tally::SORTS,
         24,
         tally,
         trial_tally::tally::WORK_SORTS,
     );
-    trial_tally::tally::take_differences(own, tally);
+    trial_tally::tally::take_differences(&own, tally);
 }
 
 fn try_works(file: &[u8], seed: &mut u64, tally: &mut [u64]) {
-    let end: usize = WORKS;
-    'works: for i in 0..end {
+    for i in 0..WORKS {
         try_run(file, work_of(i), seed, tally);
         try_sort(file, work_of(i), tally);
     }
 }
 
 fn try_rows(rows: usize, seed: &mut u64, tally: &mut [u64]) {
-    let mut room = rooms::long_zeros();
-    let file: &mut [u8] = &mut room;
-    let size = put_long(file, seed, rows);
-    try_works(first(file, size), seed, tally);
+    let mut file = rooms::long_zeros();
+    let size = put_long(&mut file, seed, rows);
+    try_works(first(&file, size), seed, tally);
 }
 
 fn try_all_rows(seed: &mut u64, tally: &mut [u64]) {
-    let end: usize = ROWS;
-    'rows: for i in 0..end {
+    for i in 0..ROWS {
         try_rows(rows_of_file(i), seed, tally);
     }
 }

@@ -6,6 +6,7 @@ mod imports;
 mod limits;
 
 use reference_fold::Folded;
+use reference_questions::Refusal;
 use text::bytes::first;
 use text::out::write_all;
 use text::streams::Streams;
@@ -26,16 +27,15 @@ const SEED: u64 = 88172645463325252;
 const WISHES: u32 = 9;
 
 fn try_wishes(file: &[u8], seed: &mut u64, tally: &mut [u64]) {
-    let end: u32 = WISHES;
-    'wishes: for wish in 0..end {
+    for wish in 0..WISHES {
         trial_operations::folds::try_wish(file, wish, seed, tally);
     }
 }
 
 // A wish past 8, and a clock list that is too short.
 fn try_refused(file: &[u8], tally: &mut [u64]) {
-    trial_operations::folds::try_alone(file, 9, 256, tally);
-    trial_operations::folds::try_alone(file, 0, 255, tally);
+    let _ = trial_operations::folds::try_alone(file, 9, 256, tally);
+    let _ = trial_operations::folds::try_alone(file, 0, 255, tally);
 }
 
 fn try_file(file: &[u8], seed: &mut u64, tally: &mut [u64]) {
@@ -55,18 +55,16 @@ fn put_fresh(kind: Size, file: &mut [u8], seed: &mut u64) -> usize {
 
 // A netlist, the same with its nodes in any order, and the same damaged.
 fn try_netlist(kind: Size, seed: &mut u64, tally: &mut [u64]) {
-    let mut room = trial_tally::rooms::long_zeros();
-    let file: &mut [u8] = &mut room;
-    let size = put_fresh(kind, file, seed);
-    try_file(first(file, size), seed, tally);
-    trial_operations::sorts::try_mixed(first(file, size), *seed, tally);
-    let left = trial_netlists::damage::damage(file, seed, size);
-    try_file(first(file, left), seed, tally);
+    let mut file = trial_tally::rooms::long_zeros();
+    let size = put_fresh(kind, &mut file, seed);
+    try_file(first(&file, size), seed, tally);
+    trial_operations::sorts::try_mixed(first(&file, size), *seed, tally);
+    let left = trial_netlists::damage::damage(&mut file, seed, size);
+    try_file(first(&file, left), seed, tally);
 }
 
 fn try_small(seed: &mut u64, tally: &mut [u64]) {
-    let end: usize = SMALL;
-    'netlists: for i in 0..end {
+    for _ in 0..SMALL {
         try_netlist(Size::Small, seed, tally);
     }
 }
@@ -87,8 +85,7 @@ fn try_round(round: usize, seed: &mut u64, tally: &mut [u64]) {
 
 fn try_rounds(tally: &mut [u64]) {
     let mut seed = SEED;
-    let end: usize = ROUNDS;
-    'rounds: for round in 0..end {
+    for round in 0..ROUNDS {
         try_round(round, &mut seed, tally);
     }
 }
@@ -107,26 +104,26 @@ fn print_rest(rt: &impl Streams, answer: Folded) {
     trial_tally::tally::print(rt, b" to ", answer.after as u64);
 }
 
-fn print_refusal(rt: &impl Streams, answer: Folded) {
-    trial_tally::tally::print(rt, b"refused ", answer.number as u64);
-    trial_tally::tally::print(rt, b" ", answer.place as u64);
+fn print_refusal(rt: &impl Streams, refusal: Refusal) {
+    trial_tally::tally::print(rt, b"refused ", refusal.number as u64);
+    trial_tally::tally::print(rt, b" ", refusal.place as u64);
 }
 
-fn print_answer(rt: &impl Streams, answer: Folded) {
-    if answer.number == 0 {
-        print_lasso(rt, answer);
-        print_rest(rt, answer);
-    } else {
-        print_refusal(rt, answer);
+fn print_answer(rt: &impl Streams, answer: Result<Folded, Refusal>) {
+    match answer {
+        Ok(folded) => {
+            print_lasso(rt, folded);
+            print_rest(rt, folded);
+        }
+        Err(refusal) => print_refusal(rt, refusal),
     }
 }
 
 // A counter of so many bits in a file of zeros, folded.
-fn fold_counter(bits: usize, tally: &mut [u64]) -> Folded {
-    let mut room = trial_tally::rooms::long_zeros();
-    let file: &mut [u8] = &mut room;
-    let size = trial_netlists::netlists::put_counter(file, bits);
-    trial_operations::folds::try_alone(first(file, size), 0, 256, tally)
+fn fold_counter(bits: usize, tally: &mut [u64]) -> Result<Folded, Refusal> {
+    let mut file = trial_tally::rooms::long_zeros();
+    let size = trial_netlists::netlists::put_counter(&mut file, bits);
+    trial_operations::folds::try_alone(first(&file, size), 0, 256, tally)
 }
 
 fn try_counter(rt: &impl Streams, bits: usize, tally: &mut [u64]) {
@@ -138,12 +135,11 @@ fn try_counter(rt: &impl Streams, bits: usize, tally: &mut [u64]) {
 }
 
 fn main(rt: HostRuntime) {
-    let mut counts = trial_tally::tally::fresh();
-    let tally: &mut [u64] = &mut counts;
-    try_counter(&rt, 8, tally);
-    try_counter(&rt, 9, tally);
-    try_rounds(tally);
-    imports::try_all(tally);
-    limits::try_all(tally);
-    trial_tally::tally::print_all(&rt, tally);
+    let mut tally = trial_tally::tally::fresh();
+    try_counter(&rt, 8, &mut tally);
+    try_counter(&rt, 9, &mut tally);
+    try_rounds(&mut tally);
+    imports::try_all(&mut tally);
+    limits::try_all(&mut tally);
+    trial_tally::tally::print_all(&rt, &tally);
 }
