@@ -84,29 +84,29 @@ const PHASED: [u32; 9] = [
 
 fn cells(kind: u8, reset: u8, a: u16, b: u16, c: u16) -> Row {
     Row {
-        kind: kind,
-        reset: reset,
-        a: a,
-        b: b,
-        c: c,
+        kind,
+        reset,
+        a,
+        b,
+        c,
     }
 }
 
 fn row_of(number: u32) -> Row {
-    let kind = (number / 10000000 % 10) as u8;
-    let reset = (number / 1000000 % 10) as u8;
-    let a = (number / 10000 % 100) as u16;
-    let b = (number / 100 % 100) as u16;
-    let c = (number % 100) as u16;
-    cells(kind, reset, a, b, c)
+    Row {
+        kind: (number / 10000000 % 10) as u8,
+        reset: (number / 1000000 % 10) as u8,
+        a: (number / 10000 % 100) as u16,
+        b: (number / 100 % 100) as u16,
+        c: (number % 100) as u16,
+    }
 }
 
 fn put_rows(file: &mut [u8], table: &[u32]) -> usize {
-    let rows = table.len();
-    'rows: for row in 0..rows {
-        put_row(file, row, row_of(table[row]));
+    for (row, &number) in table.iter().enumerate() {
+        put_row(file, row, row_of(number));
     }
-    reference_writing::writer::close(file, rows)
+    reference_writing::writer::close(file, table.len())
 }
 
 // Bit `bit` of a counter, whose rows begin at 1: its register, its XOR with the carry, and the carry to the next bit.
@@ -121,20 +121,19 @@ fn put_bit(file: &mut [u8], bit: usize) {
 
 // A counter from 0, its last bit as output.
 fn put_counter(file: &mut [u8], bits: usize) -> usize {
-    'bits: for bit in 0..bits {
+    for bit in 0..bits {
         put_bit(file, bit);
     }
     let output = 3 * (bits % 16) + 1;
-    let last = std::num::wrapping_sub_u16((2 * output) as u16, 6);
+    let last = ((2 * output) as u16).wrapping_sub(6);
     put_row(file, output, cells(6, 0, last, 0, 0));
     reference_writing::writer::close(file, output + 1)
 }
 
 // As many toggles as Fold takes, every other one with reset 1.
 fn put_toggles(file: &mut [u8]) -> usize {
-    let end: usize = 257;
-    'rows: for at in 1..end {
-        let own = (2 * (at % 257)) as u16;
+    for at in 1..257 {
+        let own = (2 * at) as u16;
         let reset = (at % 2) as u8;
         put_row(file, at, cells(2, reset, own + 1, own, 0));
     }
@@ -144,14 +143,14 @@ fn put_toggles(file: &mut [u8]) -> usize {
 
 // A chain of so many rows: an input, ANDs of it with the inverse of the row before, and the last of them as output.
 fn put_chain(file: &mut [u8], rows: usize) -> usize {
-    let output = std::num::wrapping_sub_usize(rows, 1) % 32768;
+    let output = rows.wrapping_sub(1) % 32768;
     put_row(file, 1, cells(1, 0, 0, 0, 0));
-    'rows: for at in 2..output {
+    for at in 2..output {
         let own = (2 * (at % 32768)) as u16;
-        let inverse = std::num::wrapping_sub_u16(own, 1);
+        let inverse = own.wrapping_sub(1);
         put_row(file, at, cells(3, 0, inverse, 2, 0));
     }
-    let shown = std::num::wrapping_sub_u16((2 * output) as u16, 2);
+    let shown = ((2 * output) as u16).wrapping_sub(2);
     put_row(file, output, cells(6, 0, shown, 0, 0));
     reference_writing::writer::close(file, rows)
 }

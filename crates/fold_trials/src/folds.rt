@@ -3,9 +3,8 @@ ghost use Rattle.std.specs.Prelude.{◌≡◌, ◌<◌, length};
 
 use crate::listed::{LIST, fillers, fold_listed, put_clocks};
 use reference_fold::{Folded, Lent};
-use text::both;
-use text::bytes::{first, least, same};
-use text::numbers::number_at;
+use reference_questions::Refusal;
+use text::bytes::{first, get};
 use text::out::tell;
 use text::streams::Streams;
 
@@ -39,7 +38,7 @@ pub const COUNTS: usize = 24;
 
 pub fn add(tally: &mut [usize], at: usize, more: usize) {
     if at < tally.len() {
-        tally[at] = std::num::wrapping_add_usize(tally[at], more);
+        tally[at] = tally[at].wrapping_add(more);
     }
 }
 
@@ -51,39 +50,17 @@ fn hold(tally: &mut [usize], same: bool, kind: usize) {
 }
 
 pub fn all_zero(bytes: &[u8]) -> bool {
-    let mut i = 0;
-    'bytes: while i < bytes.len() {
-        if bytes[i] != 0 {
-            return false;
-        }
-        i += 1;
-    }
-    true
+    bytes.iter().all(|&byte| byte == 0)
 }
 
 // How many of the numbers 0, `step`, twice `step` and so on are others in `y`.
 fn different(x: &[u32], y: &[u32], step: usize) -> usize
     requires { 0 < step }
 {
-    let mut sum: usize = 0;
-    let mut i = 0;
-    'numbers: while i < x.len() {
-        if x[i] != number_at(y, i) {
-            if i % step == 0 {
-                sum = std::num::wrapping_add_usize(sum, 1);
-            }
-        }
-        i += 1;
-    }
-    sum
-}
-
-fn same_answer(x: Folded, y: Folded) -> bool {
-    let verdict = both(x.number == y.number, x.place == y.place);
-    let lasso = both(x.stem == y.stem, x.cycle == y.cycle);
-    let clocks = both(x.phases == y.phases, x.used == y.used);
-    let rows = both(x.before == y.before, x.after == y.after);
-    both(both(verdict, lasso), both(clocks, rows))
+    x.iter()
+        .enumerate()
+        .filter(|&(i, &number)| i % step == 0 && number != get(y, i))
+        .count()
 }
 
 // The public operation with so much of each memory.
@@ -94,16 +71,16 @@ fn fold_lent(
     res: &mut [u8],
     work: &mut [u8],
     list: &mut [u32],
-) -> Folded {
-    let entries = least(lent.clocks, LIST);
-    let result_end = least(lent.result, res.len());
-    let work_end = least(lent.work, work.len());
+) -> Result<Folded, Refusal> {
+    let entries = lent.clocks.min(LIST);
+    let result_end = lent.result.min(res.len());
+    let work_end = lent.work.min(work.len());
     fold_listed(
         file,
         wish,
         entries,
-        &mut res[0..result_end],
-        &mut work[0..work_end],
+        &mut res[..result_end],
+        &mut work[..work_end],
         list,
     )
 }
@@ -132,36 +109,35 @@ fn compare(
     file: &[u8],
     wish: u32,
     lent: Lent,
-    answer: Folded,
+    answer: Result<Folded, Refusal>,
     res: &[u8],
     list: &[u32],
     tally: &mut [usize],
 ) {
-    let mut results = result_room();
-    let mut lists = [0u32; NUMBERS];
-    let right_result: &mut [u8] = &mut results;
-    let right_list: &mut [u32] = &mut lists;
-    put_clocks(right_list, fillers());
-    let set = different(list, right_list, 4);
-    let right = reference_fold::fold(file, wish, lent, right_result, right_list);
+    let mut right_result = result_room();
+    let mut right_list = [0u32; NUMBERS];
+    put_clocks(&mut right_list, fillers());
+    let set = different(list, &right_list, 4);
+    let right = reference_fold::fold(file, wish, lent, &mut right_result, &mut right_list);
     let size = lent.result;
-    let same_result = same(first(res, size), first(right_result, size));
-    let same_list = different(list, right_list, 1) == 0;
-    add(tally, answer.number as usize, 1);
+    let same_result = first(res, size) == first(&right_result, size);
+    let same_list = list == right_list.as_slice();
+    let number = match answer {
+        Ok(_) => 0,
+        Err(refusal) => refusal.number,
+    };
+    add(tally, number as usize, 1);
     add(tally, SET, set);
-    hold_all(tally, same_answer(answer, right), same_result, same_list);
+    hold_all(tally, answer == right, same_result, same_list);
 }
 
 pub fn try_fold(file: &[u8], wish: u32, lent: Lent, tally: &mut [usize]) {
-    let mut results = result_room();
-    let mut works = work_room();
-    let mut lists = [0u32; NUMBERS];
-    let result: &mut [u8] = &mut results;
-    let work: &mut [u8] = &mut works;
-    let list: &mut [u32] = &mut lists;
-    let answer = fold_lent(file, wish, lent, result, work, list);
-    hold(tally, all_zero(first(work, lent.work)), WORKS);
-    compare(file, wish, lent, answer, result, list, tally);
+    let mut result = result_room();
+    let mut work = work_room();
+    let mut list = [0u32; NUMBERS];
+    let answer = fold_lent(file, wish, lent, &mut result, &mut work, &mut list);
+    hold(tally, all_zero(first(&work, lent.work)), WORKS);
+    compare(file, wish, lent, answer, &result, &list, tally);
 }
 
 pub fn print(rt: &impl Streams, counts: [usize; COUNTS]) {

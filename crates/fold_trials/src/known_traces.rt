@@ -1,9 +1,8 @@
 // Trace on two designs with answers that are known: what it answers, every byte of the trace's memory, and that result and work are all zero.
 use crate::folds::{FILL, add, all_zero, result_room, work_room};
-use text::both;
-use text::bytes::{first, least, put, rest, same};
-use text::numbers::number_at;
-use trace_answers::Tracing;
+use crate::listed::refused;
+use reference_questions::Refusal;
+use text::bytes::{first, get, put, rest};
 
 // How much of a trace's memory is looked at.
 const TRACE_ROOM: usize = 32;
@@ -25,13 +24,6 @@ struct Memories {
     result: usize,
     work: usize,
     trace: usize,
-}
-
-#[derive(Clone, Copy)]
-struct Answer {
-    number: u32,
-    place: u32,
-    steps: u32,
 }
 
 // Four numbers for a trace. The digits of the first: the design, the wish, the groups (three), the phase, how many choices and inputs. Of the second: the memories, of which 0 are the least, 1 more, 2 have a short result and 3 short work; bytes of memory for the trace (two); and the answer: number (two), steps, bytes of the trace (two). Then the choices and inputs, and the trace.
@@ -116,67 +108,38 @@ fn request_of(number: u32, values: u32) -> Request {
         phase: number / 100 % 10,
         choices: (number / 10 % 10) as usize,
         inputs: (number % 10) as usize,
-        values: values,
+        values,
     }
 }
 
 fn memories_of(number: u32) -> Memories {
-    let trace = (number / 100000 % 100) as usize;
-    let lent = number / 10000000;
-    match lent {
-        1 => Memories {
-            result: 65600,
-            work: 49200,
-            trace: trace,
-        },
-        2 => Memories {
-            result: 65535,
-            work: 49152,
-            trace: trace,
-        },
-        3 => Memories {
-            result: 65536,
-            work: 49151,
-            trace: trace,
-        },
-        _ => Memories {
-            result: 65536,
-            work: 49152,
-            trace: trace,
-        },
+    let (result, work) = match number / 10000000 {
+        1 => (65600, 49200),
+        2 => (65535, 49152),
+        3 => (65536, 49151),
+        _ => (65536, 49152),
+    };
+    Memories {
+        result,
+        work,
+        trace: (number / 100000 % 100) as usize,
     }
 }
 
-fn answer_of(number: u32) -> Answer {
-    Answer {
-        number: number / 1000 % 100,
-        place: 0,
-        steps: number / 100 % 10,
-    }
-}
-
-fn of_trace(answer: Tracing) -> Answer {
-    match answer {
-        Tracing::Done { steps } => Answer {
-            number: 0,
-            place: 0,
-            steps: steps,
-        },
-        Tracing::Refused(refusal) => Answer {
-            number: trace_answers::number_of(refusal),
-            place: trace_answers::place_of(refusal),
-            steps: 0,
-        },
+// How many steps there are, or the refusal.
+fn answer_of(number: u32) -> Result<u32, Refusal> {
+    match number / 1000 % 100 {
+        0 => Ok(number / 100 % 10),
+        number => Err(Refusal { number, place: 0 }),
     }
 }
 
 // The last `count` digits of a number, a byte each.
 fn put_digits(bytes: &mut [u8], count: usize, number: u32) {
     let mut more = number;
-    'digits: for i in 0..count {
-        let at = std::num::wrapping_sub_usize(count, std::num::wrapping_add_usize(i, 1));
+    for at in (0..count).rev() {
         put(bytes, at, (more % 10) as u8);
-        more = more / 10;
+        more /= 10;
     }
 }
 
@@ -188,23 +151,24 @@ fn trace(
     res: &mut [u8],
     work: &mut [u8],
     left: &mut [u8],
-) -> Answer {
+) -> Result<u32, Refusal> {
     let choices = first(values, asked.choices);
     let inputs = first(rest(values, asked.choices), asked.inputs);
-    let result_end = least(memories.result, res.len());
-    let work_end = least(memories.work, work.len());
-    let left_end = least(memories.trace, left.len());
-    of_trace(trace::trace(
+    let result_end = memories.result.min(res.len());
+    let work_end = memories.work.min(work.len());
+    let left_end = memories.trace.min(left.len());
+    trace::trace(
         file,
         asked.wish,
         asked.groups,
         asked.phase,
         choices,
         inputs,
-        &mut res[0..result_end],
-        &mut work[0..work_end],
-        &mut left[0..left_end],
-    ))
+        &mut res[..result_end],
+        &mut work[..work_end],
+        &mut left[..left_end],
+    )
+    .map_err(|refusal| refused(refusal))
 }
 
 // Whether result and work are zero as far as they are lent.
@@ -212,40 +176,31 @@ fn trace_and_clear(
     file: &[u8],
     asked: Request,
     memories: Memories,
-    right: Answer,
+    right: Result<u32, Refusal>,
     left: &mut [u8],
 ) -> bool {
-    let mut results = result_room();
-    let mut works = work_room();
-    let mut digits = [0u8; TRACE_ROOM];
-    let result: &mut [u8] = &mut results;
-    let work: &mut [u8] = &mut works;
-    let values: &mut [u8] = &mut digits;
-    let given = std::num::wrapping_add_usize(asked.choices, asked.inputs);
-    put_digits(values, given, asked.values);
-    let answer = trace(file, asked, values, memories, result, work, left);
-    let told = both(answer.number == right.number, answer.place == right.place);
-    let result_clear = all_zero(first(result, memories.result));
-    let work_clear = all_zero(first(work, memories.work));
-    both(
-        both(told, answer.steps == right.steps),
-        both(result_clear, work_clear),
-    )
+    let mut result = result_room();
+    let mut work = work_room();
+    let mut values = [0u8; TRACE_ROOM];
+    let given = asked.choices.wrapping_add(asked.inputs);
+    put_digits(&mut values, given, asked.values);
+    let answer = trace(file, asked, &values, memories, &mut result, &mut work, left);
+    answer == right
+        && all_zero(first(&result, memories.result))
+        && all_zero(first(&work, memories.work))
 }
 
 // A row of the table: the trace, and unchanged memory behind it.
 fn try_known(file: &[u8], at: usize, tally: &mut [usize]) {
-    let mut lefts = [FILL; TRACE_ROOM];
-    let mut wants = [FILL; TRACE_ROOM];
-    let left: &mut [u8] = &mut lefts;
-    let wanted: &mut [u8] = &mut wants;
+    let mut left = [FILL; TRACE_ROOM];
+    let mut wanted = [FILL; TRACE_ROOM];
     let expected = known(at, 1);
     let asked = request_of(known(at, 0), known(at, 2));
-    put_digits(wanted, (expected % 100) as usize, known(at, 3));
+    put_digits(&mut wanted, (expected % 100) as usize, known(at, 3));
     let memories = memories_of(expected);
-    let right = trace_and_clear(file, asked, memories, answer_of(expected), left);
+    let right = trace_and_clear(file, asked, memories, answer_of(expected), &mut left);
     add(tally, crate::folds::TRACES, 1);
-    if both(right, same(left, wanted)) {
+    if right && left == wanted {
         add(tally, crate::folds::TRACES_RIGHT, 1);
     }
 }
@@ -253,7 +208,7 @@ fn try_known(file: &[u8], at: usize, tally: &mut [usize]) {
 // A number of a row of the table.
 fn known(row: usize, column: usize) -> u32 {
     let at = 4 * (row % ROWS);
-    number_at(&KNOWN, at + column % 4)
+    get(&KNOWN, at + column % 4)
 }
 
 // If it is one of the design.
@@ -265,8 +220,7 @@ fn try_row(file: &[u8], design: u32, row: usize, tally: &mut [usize]) {
 
 // Those of the design.
 pub fn try_traces(file: &[u8], design: u32, tally: &mut [usize]) {
-    let end: usize = ROWS;
-    'rows: for row in 0..end {
+    for row in 0..ROWS {
         try_row(file, design, row, tally);
     }
 }

@@ -16,15 +16,14 @@ use text::bytes::first;
 fn lent(res: usize, work: usize, clocks: usize) -> Lent {
     Lent {
         result: res,
-        work: work,
-        clocks: clocks,
+        work,
+        clocks,
     }
 }
 
 // Every wish, and 9, with memories of several lengths.
 fn try_wishes(file: &[u8], tally: &mut [usize]) {
-    let end: usize = 10;
-    'wishes: for wish in 0..end {
+    for wish in 0..10 {
         let memories = lent(65536 + 7 * wish, 49152 + 5 * wish, 256 + wish % 5);
         try_fold(file, wish as u32, memories, tally);
     }
@@ -46,18 +45,16 @@ fn design_room() -> [u8; 262144]
 
 // At last with a byte of the last check changed.
 fn try_design(design: usize, tally: &mut [usize]) {
-    let mut room = design_room();
-    let file: &mut [u8] = &mut room;
-    let size = designs::put_design(file, design);
-    try_wishes(first(file, size), tally);
-    try_short(first(file, size), tally);
-    text::bytes::put(file, std::num::wrapping_sub_usize(size, 3), 77);
-    try_fold(first(file, size), 0, lent(65536, 49152, 256), tally);
+    let mut file = design_room();
+    let size = designs::put_design(&mut file, design);
+    try_wishes(first(&file, size), tally);
+    try_short(first(&file, size), tally);
+    text::bytes::put(&mut file, size.wrapping_sub(3), 77);
+    try_fold(first(&file, size), 0, lent(65536, 49152, 256), tally);
 }
 
 fn try_designs(tally: &mut [usize]) {
-    let end: usize = designs::DESIGNS;
-    'designs: for design in 0..end {
+    for design in 0..designs::DESIGNS {
         try_design(design, tally);
     }
 }
@@ -75,10 +72,9 @@ fn try_longer(tally: &mut [usize]) {
 }
 
 fn try_traced(design: usize, number: u32, tally: &mut [usize]) {
-    let mut room = design_room();
-    let file: &mut [u8] = &mut room;
-    let size = designs::put_design(file, design);
-    known_traces::try_traces(first(file, size), number, tally);
+    let mut file = design_room();
+    let size = designs::put_design(&mut file, design);
+    known_traces::try_traces(first(&file, size), number, tally);
 }
 
 fn main(rt: HostRuntime) {
