@@ -4,7 +4,8 @@
 ghost use Rattle.fold_answers.specs.FoldedOutcome.{Folded};
 
 use clock_list::Clock;
-use fold_answers::{FoldNumbers, FoldRefusal};
+use fold_answers::FoldNumbers;
+use fold_refusals::FoldRefusal;
 
 // The fold, its clock entries in the list and its file in the result; work is cleared.
 pub fn fold(

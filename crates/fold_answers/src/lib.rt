@@ -4,7 +4,7 @@
 ghost use Rattle.std.specs.Prelude.{◌≡◌};
 ghost use Rattle.fold_answers.specs.FoldAnswers.{used_in};
 
-pub use fold_refusals::FoldRefusal;
+use fold_refusals::FoldRefusal;
 
 // Stem, cycle, phase count, used generators, and the row counts before and after.
 #[derive(Clone, Copy, Debug, PartialEq, Eq)]
