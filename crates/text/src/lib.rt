@@ -10,13 +10,3 @@ pub mod out;
 pub mod rooms;
 pub mod streams;
 mod words;
-
-// Whether both hold.
-pub fn both(x: bool, y: bool) -> bool {
-    x && y
-}
-
-// Whether one of them holds.
-pub fn either(x: bool, y: bool) -> bool {
-    x || y
-}
