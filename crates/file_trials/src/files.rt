@@ -131,9 +131,7 @@ fn try_uncounted(rt: &impl Streams, tally: Tally, numbers: &[u32], file: &[u8]) 
     let expected = Seen(get(numbers, 3), get(numbers, 4));
     match count::count(first(file, size)) {
         Ok(_) => crate::tell::judged(rt, tally, false),
-        Err(refusal) => {
-            crate::tell::outcome(rt, tally, crate::tell::refused(refusal), expected, true)
-        }
+        Err(refusal) => crate::tell::outcome(rt, tally, Seen::from(refusal), expected, true),
     }
 }
 

@@ -1,11 +1,52 @@
 // What is seen is printed behind its line of the script, and held to what the line expects.
-use questions::Numbered;
+use accept::FileRefusal;
+use run_answers::RunRefusal;
+use sort_answers::SortRefusal;
 use text::out::{print_decimal, write_all};
 use text::streams::Streams;
 
-// A refusal's number and place by the scope paper; 0 and 0 for success.
+// A refusal's number and place by the scope paper, in a table of its own; 0 and 0 for success.
 #[derive(Clone, Copy, Debug, PartialEq, Eq)]
 pub struct Seen(pub u32, pub u32);
+
+impl From<FileRefusal> for Seen {
+    fn from(refusal: FileRefusal) -> Seen {
+        match refusal {
+            FileRefusal::Length => Seen(1, 0),
+            FileRefusal::Sum { block } => Seen(2, block),
+            FileRefusal::Header { block } => Seen(3, block),
+            FileRefusal::RowCount { block } => Seen(4, block),
+            FileRefusal::Unused { block } => Seen(5, block),
+            FileRefusal::Kind { row } => Seen(6, row),
+            FileRefusal::Field { row } => Seen(7, row),
+            FileRefusal::Label { row } => Seen(8, row),
+            FileRefusal::Literal { row } => Seen(9, row),
+            FileRefusal::NoOutput => Seen(10, 0),
+        }
+    }
+}
+
+impl From<RunRefusal> for Seen {
+    fn from(refusal: RunRefusal) -> Seen {
+        match refusal {
+            RunRefusal::File(file) => Seen::from(file),
+            RunRefusal::Steps => Seen(17, 0),
+            RunRefusal::Lists => Seen(18, 0),
+            RunRefusal::Value => Seen(19, 0),
+            RunRefusal::Memory => Seen(20, 0),
+        }
+    }
+}
+
+impl From<SortRefusal> for Seen {
+    fn from(refusal: SortRefusal) -> Seen {
+        match refusal {
+            SortRefusal::File(file) => Seen::from(file),
+            SortRefusal::Loop { row } => Seen(22, row),
+            SortRefusal::Memory => Seen(23, 0),
+        }
+    }
+}
 
 // How many expectations there were, and how many were met.
 #[derive(Clone, Copy)]
@@ -18,14 +59,13 @@ pub fn no_tally() -> Tally {
     Tally { asked: 0, met: 0 }
 }
 
-pub fn refused(refusal: impl Numbered + Copy) -> Seen {
-    Seen(refusal.number(), refusal.place())
-}
-
-pub fn seen_of<T: Copy, R: Numbered + Copy>(answer: Result<T, R>) -> Seen {
+pub fn seen_of<T: Copy, R: Copy>(answer: Result<T, R>) -> Seen
+where
+    Seen: From<R>,
+{
     match answer {
         Ok(_) => Seen(0, 0),
-        Err(refusal) => refused(refusal),
+        Err(refusal) => Seen::from(refusal),
     }
 }
 

@@ -1,19 +1,42 @@
 // Check, Count and Show of a file: refusals beside the reference's, counts beside the rows, parts beside the file's bytes.
+use accept::FileRefusal;
 use blockfile::count::Counts;
 use reference_questions::{Refusal, said};
 use reference_rows::rows::{count_kind, rows_of};
 use text::bytes::{first, rest};
 use trial_pieces::dice::{chance, roll};
 use trial_pieces::pieces::plus;
-use trial_runs::{number_of, refused};
+use trial_runs::number_of;
 use trial_tally::tally::{add, add_if, hold};
+
+// ---- refusals
+
+// Number and place by the scope paper, in a table of its own, as the two of Fold and Sort.
+pub fn numbered(number: u32, place: u32) -> Refusal {
+    Refusal { number, place }
+}
+
+pub fn of_file(refusal: FileRefusal) -> Refusal {
+    match refusal {
+        FileRefusal::Length => numbered(1, 0),
+        FileRefusal::Sum { block } => numbered(2, block),
+        FileRefusal::Header { block } => numbered(3, block),
+        FileRefusal::RowCount { block } => numbered(4, block),
+        FileRefusal::Unused { block } => numbered(5, block),
+        FileRefusal::Kind { row } => numbered(6, row),
+        FileRefusal::Field { row } => numbered(7, row),
+        FileRefusal::Label { row } => numbered(8, row),
+        FileRefusal::Literal { row } => numbered(9, row),
+        FileRefusal::NoOutput => numbered(10, 0),
+    }
+}
 
 // ---- Check
 
 pub fn check_right(file: &[u8], right: Result<(), Refusal>) -> bool {
     match accept::accept(file) {
         Ok(_) => right == Ok(()),
-        Err(refusal) => right == Err(refused(refusal)),
+        Err(refusal) => right == Err(of_file(refusal)),
     }
 }
 
@@ -42,7 +65,7 @@ fn counts_right(file: &[u8], counts: Counts) -> bool {
 pub fn count_right(file: &[u8], right: Result<(), Refusal>) -> bool {
     match count::count(file) {
         Ok(counts) => right == Ok(()) && counts_right(file, counts),
-        Err(refusal) => right == Err(refused(refusal)),
+        Err(refusal) => right == Err(of_file(refusal)),
     }
 }
 

@@ -1,11 +1,13 @@
 // Fold of a file by the product and by the reference: refusals, answers, every byte of the result, clock entries.
+use crate::files::{numbered, of_file};
 use fold_answers::FoldNumbers;
 use fold_memory::ENTRIES;
+use fold_refusals::FoldRefusal;
 use reference_fold::{Folded, Lent};
 use reference_questions::Refusal;
 use reference_rows::rows::length_of;
 use text::bytes::{first, get};
-use trial_runs::{number_of, refused};
+use trial_runs::number_of;
 use trial_tally::rooms;
 use trial_tally::tally::{add, hold};
 
@@ -19,6 +21,18 @@ fn lent_of(clocks: usize) -> Lent {
         result: RESULT_LENT,
         work: WORK_LENT,
         clocks,
+    }
+}
+
+fn of_refusal(refusal: FoldRefusal) -> Refusal {
+    match refusal {
+        FoldRefusal::File(file) => of_file(file),
+        FoldRefusal::Rows => numbered(11, 0),
+        FoldRefusal::Registers => numbered(12, 0),
+        FoldRefusal::Phase { row } => numbered(13, row),
+        FoldRefusal::Wish => numbered(14, 0),
+        FoldRefusal::Memory => numbered(15, 0),
+        FoldRefusal::NoLasso => numbered(16, 0),
     }
 }
 
@@ -88,7 +102,7 @@ fn fold(
 ) -> Result<Folded, Refusal> {
     match fold_core::fold_core(file, wish, res, work, clocks) {
         Ok(numbers) => Ok(folded(numbers)),
-        Err(refusal) => Err(refused(refusal)),
+        Err(refusal) => Err(of_refusal(refusal)),
     }
 }
 

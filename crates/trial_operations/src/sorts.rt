@@ -1,15 +1,25 @@
 // Sort of files whose nodes stand in any order, by the product and by the reference: answers, every byte of result and work. What is sorted is checked, sorted again, and run beside the file.
+use crate::files::{numbered, of_file};
 use reference_questions::Refusal;
 use reference_rows::rows::{rows_of, work_for};
+use sort_answers::SortRefusal;
 use text::bytes::first;
 use trial_pieces::dice::lent_of;
 use trial_pieces::pieces::plus;
-use trial_runs::{number_of, refused};
+use trial_runs::number_of;
 use trial_tally::rooms;
 use trial_tally::tally::{add, hold};
 
 // So much of the result behind the file is compared, whether it is lent or not.
 const BEHIND: usize = 64;
+
+fn of_refusal(refusal: SortRefusal) -> Refusal {
+    match refusal {
+        SortRefusal::File(file) => of_file(file),
+        SortRefusal::Memory => numbered(23, 0),
+        SortRefusal::Loop { row } => numbered(22, row),
+    }
+}
 
 // What both answered is counted and compared.
 fn compare_answers(answer: Result<u32, Refusal>, right: Result<u32, Refusal>, tally: &mut [u64]) {
@@ -62,7 +72,7 @@ fn sort_lent(
     let result_end = result_lent.min(res.len());
     let work_end = work_lent.min(work.len());
     let answer = sort::sort(file, &mut res[..result_end], &mut work[..work_end]).map_err(
-        |refusal| refused(refusal),
+        |refusal| of_refusal(refusal),
     );
     let right = sort_again(file, result_end, work_end, res, &work, tally);
     compare_answers(answer, right, tally);
