@@ -122,7 +122,8 @@ pub fn row_value(
             mux_of(selector, x, y)
         }
         6 => field_value(file, at_a, work, current),
-        7..=255 => NO_VALUE,
+        // By `return`: without it a row takes an instruction more.
+        7..=255 => return NO_VALUE,
     }
 }
 

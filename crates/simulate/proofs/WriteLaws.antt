@@ -1,15 +1,12 @@
 -- Bytes written into a list: one byte more, bytes copied, and the whole list.
 -- Assumes nothing.
 use Prim.Native.Nat.{ℕ, ◌+◌, ◌<◌, ◌≤◌}
-use mathlib.Core.Path.{◌≡◌, sym, ap, ◌∙◌}
+use mathlib.Core.Path.{◌≡◌, refl, sym, ap, ◌∙◌}
 use mathlib.Core.List.{List, [], ◌∷◌, ◌++◌}
 use native.Mathlib.Omega.{arith}
 use native.Mathlib.Numerals.{add-one}
 use lib.ListN.{length, set, take, drop, length-drop}
-use borrow.Rule.Slice.PartMut.{put_mid}
-use Rattle.std.proofs.Common.{append_assoc}
-use Rattle.std.proofs.lemmas.List.{drop-drop}
-use lib.Seq.{sets, sets-eq, length-take-le, take-suc}
+use lib.Seq.{sets, sets-eq, get_or-drop, length-take-le, take-suc}
 use Rattle.memory.specs.Fields.{byte_at}
 use Rattle.memory.proofs.BufferLaws.{sets-join}
 
@@ -23,14 +20,11 @@ put_next w v xs o i p x e h q z =
     put_last w v (take i xs) o p x e (omega (arith, length-take-le i xs (omega arith)))
     ∙ ap (λ (l : List ℕ). sets v o l) (ap (λ (y : ℕ). take i xs ++ (y ∷ [])) z ∙ sym (ap (λ (k : ℕ). take k xs) (add-one i) ∙ take-suc xs i 0 h))
 
--- Bytes of w from o on, copied to byte `to`.
-pub copied : (w r : List ℕ) (o to m : ℕ) → to + m ≤ length r → o + m ≤ length w → (ys : List ℕ) (k j : ℕ) → k ≡ m → j ≡ m → ys ≡ take j (drop o w) → put_mid to k r ys ≡ sets r to (take m (drop o w))
-copied w r o to m room fits ys k j e i q =
-    let xs = take m (drop o w) in
-    let n : length xs ≡ m = length-take-le m (drop o w) (omega (arith, length-drop o w)) in
-    rw (q, e, i)
-    (sym (sets-eq xs r to (omega arith) ∙ ap (λ (i : ℕ). take to r ++ xs ++ drop (to + i) r) n
-    ∙ append_assoc (take to r) xs (drop (to + m) r) ∙ ap (λ (l : List ℕ). take to r ++ (xs ++ l)) (sym (drop-drop m to r))))
+-- ---- bytes copied from o on in w
+
+module _ (w r₀ r : List ℕ) (o to i : ℕ) (er : r ≡ sets r₀ to (take i (drop o w))) (m : ℕ) (fits : o + m ≤ length w) where
+  pub copy_more : i < m → set r (to + i) (byte_at w (o + i)) ≡ sets r₀ to (take (i + 1) (drop o w))
+  copy_more less = put_next r r₀ (drop o w) to i (to + i) (byte_at w (o + i)) er (omega (arith, length-drop o w)) refl (sym (get_or-drop o w i 0))
 
 -- Written from the front on, and nothing else.
 pub write-front : (v xs : List ℕ) → length xs ≤ length v → sets v 0 xs ≡ xs ++ drop (length xs) v

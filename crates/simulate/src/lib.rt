@@ -48,8 +48,9 @@ fn evaluate_rows(
     for row in start..stop {
         let kind = file[offset];
         let value = row_values::row_value(file, row, offset, kind, inputs, used, work, step);
+        let more = blockfile::count::one_if(kind == 1);
         work[step.current + row] = value;
-        used += blockfile::count::one_if(kind == 1);
+        used += more;
         offset += ROW_BYTES;
     }
     used
@@ -86,12 +87,14 @@ fn start(file: &[u8], rows: usize, choices: &[u8], work: &mut [u8])
     }
 }
 
-// Copies `count` bytes, from byte `from` of work to byte `to` of result.
+// Copies `count` bytes, from byte `from` of work to byte `to` of result. By a loop: `copy_from_slice` would have the library for C ask for `memmove` from outside.
 fn copy_outputs(work: &[u8], from: usize, count: usize, res: &mut [u8], to: usize)
     requires { (from + count ≤ length work.now) × (to + count ≤ length res.old) }
     ensures { res.new ≡ sets res.old to (take count (drop from work.now)) }
 {
-    res[to..to + count].copy_from_slice(&work[from..from + count]);
+    for copied in 0..count {
+        res[to + copied] = work[from + copied];
+    }
 }
 
 // One step: the rows' values, and the outputs' bytes from byte `to` of result on.

@@ -88,7 +88,8 @@ fn row_value(work: &[u8], row: blockfile::Fields, base: usize, j: usize) -> u8
         4 => xor_value(work, row.a, row.b),
         5 => mux_value(work, row.a, row.b, row.c),
         6 => literal_value(work, row.a),
-        7..=255 => NO_CODE,
+        // By `return`: without it a row takes an instruction more.
+        7..=255 => return NO_CODE,
     }
 }
 

@@ -1,8 +1,6 @@
--- `copy_outputs` meets its contract.
--- Assumes nothing.
-use native.Mathlib.Omega.{arith}
-use Rattle.simulate.proofs.WriteLaws.{copied}
+use borrow.Author.Rules.{rules}
+use Rattle.simulate.proofs.WriteLaws.{copy_more}
 use Rattle.simulate.proofs.copy_outputs.Goals as goal
 
-pub returns : goal.returns
-returns c = copied c.args.work.now c.args.res.now c.args.from c.args.to c.args.count c.requires.1 c.requires.0 _ _ _ (omega arith) (omega arith) c.copy_from_slice.ensures.after
+pub loop-copied-preserved : goal.loop-copied-preserved
+loop-copied-preserved c = search (copy_more, rules)
