@@ -72,12 +72,12 @@ pub fn set_slot(slots: &mut [u8], index: usize, value: usize)
     write_u16(slots, offset, value as u32);
 }
 
-// The bytes from `at` on become 0; past the end there are none.
+// The bytes from `at` on become 0; past the end there are none. By a loop, of which the proof knows each byte, where `fill` has one fact of all.
 pub fn clear_from(s: &mut [u8], at: usize)
     ensures { s.new ≡ take at s.old ++ replicate (length s.old - at) 0 }
 {
-    if at < s.len() {
-        s[at..].fill(0);
+    for i in at..s.len() {
+        s[i] = 0;
     }
 }
 

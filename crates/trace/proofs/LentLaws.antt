@@ -45,10 +45,10 @@ module _ (file : List ℕ) (wish : ℕ) (result result' work work' : List ℕ) (
   later G k choices inputs trace = elim (fold_netlist (netlist_of file) wish) [ none ↦ [] | some a ↦ trace_questions (netlist_of file) a.phases a.rows G k choices inputs (length trace) ]
 
   -- Fold refuses, and so does Trace.
-  pub lent-refused : (r : FoldRefusal) → answer ≡ Err r → (G k : ℕ) (choices inputs trace : List ℕ) → TraceDone file wish G k choices inputs (length result) (length work) trace trace (Err (Fold r))
+  pub lent-refused : (r : FoldRefusal) → answer ≡ Err r → (x : TraceRefusal) → x ≡ Fold r → (G k : ℕ) (choices inputs trace : List ℕ) → TraceDone file wish G k choices inputs (length result) (length work) trace trace (Err x)
   unfolding trace_refusal
-  lent-refused r e G k choices inputs trace =
-      let same : fold_refusal_in r ≡ folding = sym (ap folding_refusal e) ∙ core.done.refusal in
+  lent-refused r e x f G k choices inputs trace =
+      rw f let same : fold_refusal_in r ≡ folding = sym (ap folding_refusal e) ∙ core.done.refusal in
       trace-refused file wish G k choices inputs (length result) (length work) trace (Fold r) (same ∙ sym (list-stop folding (later G k choices inputs trace) (omega (arith, fold-number-positive r, ap (λ (q : Refusal). q.number) same))))
 
   module _ (n : FoldNumbers) (e : answer ≡ Ok n) where

@@ -134,19 +134,23 @@ fn trace_lent(
 ) -> Result<u32, TraceRefusal>
     ensures { TraceDone file.now wish groups phase choices.now inputs.now (length res.old) (length work.old) trace.old trace.new result }
 {
-    let numbers = fold_core::fold_core(file, wish, &mut *res, &mut *work, FOLD_CLOCK_ENTRIES)?;
-    let size = file_bytes(numbers.after);
-    trace_fold(
-        file,
-        numbers,
-        &res[0..size],
-        groups,
-        phase,
-        choices,
-        inputs,
-        work,
-        trace,
-    )
+    match fold_core::fold_core(file, wish, &mut *res, &mut *work, FOLD_CLOCK_ENTRIES) {
+        Err(refusal) => Err(TraceRefusal::from(refusal)),
+        Ok(numbers) => {
+            let size = file_bytes(numbers.after);
+            trace_fold(
+                file,
+                numbers,
+                &res[0..size],
+                groups,
+                phase,
+                choices,
+                inputs,
+                work,
+                trace,
+            )
+        }
+    }
 }
 
 // The trace in the memory lent for it; a refusal leaves that as it was. Result and work are cleared on every return.
