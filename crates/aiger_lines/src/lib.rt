@@ -12,7 +12,7 @@ const LARGEST: u64 = 4294967295;
 // A number with the byte after it, a space or the line feed that ends a line, and where the text goes on; or other text.
 // Three cases in one enum: `read_line` and `read_header` take them apart by one pattern, where an `Option` asks for two.
 #[derive(Clone, Copy)]
-enum Field {
+pub enum Field {
     Next(u32, usize),
     Last(u32, usize),
     Other,

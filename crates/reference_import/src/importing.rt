@@ -110,7 +110,9 @@ pub fn put_names(table: &[u32], heading: Heading, count: usize, names: &mut [u32
 
 // The first node with this name.
 fn node_named(names: &[u32], nodes: usize, name: u32) -> Option<usize> {
-    (0..nodes).find(|&node| item(names, node) == name)
+    names[..nodes.min(names.len())]
+        .iter()
+        .position(|&other| other == name)
 }
 
 fn is_defined(names: &[u32], nodes: usize, literal: u32) -> bool {
